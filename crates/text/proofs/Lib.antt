@@ -1,0 +1,4 @@
+pub mod Numerals
+pub mod Frames
+pub mod Lines
+pub mod Lexing

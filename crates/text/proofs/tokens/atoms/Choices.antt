@@ -1,0 +1,12 @@
+use mathlib.Core.Path.{_≡_}
+use Prim.Native.Nat.{_-_, _+_, _≤_}
+use lib.ListN.{length, drop}
+use Rattle.std.specs.shelf.Lists.{leading}
+use Rattle.text.specs.Tokens.{atom}
+use Rattle.text.proofs.tokens.atoms.Given as given
+
+abbrev pub Inv-loop-n : given.InvT-loop-n
+Inv-loop-n l = (l .n ≤ length (l .s)) × (l .n + leading atom (drop (l .n) (l .s)) ≡ leading atom (l .s))
+
+abbrev pub μ-loop-n : given.MeasureT-loop-n
+μ-loop-n l = length (l .s) - l .n
