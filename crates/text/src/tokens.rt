@@ -53,6 +53,7 @@ fn next<'a>(bytes: &'a [u8]) -> (Token<'a>, &'a [u8])
 pub fn lex<'a>(bytes: &'a [u8], out: &mut [Token<'a>; 24]) -> usize
     ensures within { λ r. ⌜ r ≤ 24 ⌝ }
     ensures filled { λ r. ⌜ map seen (take r (now (out .exit))) ≡ tokens (now (bytes .entry)) ⌝ }
+    ensures sized { λ _. ⌜ length (now (out .exit)) ≡ 24 ⌝ }
     ensures stays { λ r. ⌜ drop r (now (out .exit)) ≡ drop r (now (out .entry)) ⌝ }
 {
     let mut rest = bytes;

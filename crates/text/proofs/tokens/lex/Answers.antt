@@ -18,6 +18,7 @@ returns-then-n-ge23 c =
     record {
       within = omega (arith, c .loop-rest .inv .0);
       filled = full _ (c .loop-rest .out) (c .loop-rest .n) _ (c .loop-rest .rest .now) (c .loop-rest .inv .0) (c .if-n-ge23 .taken) (omega (arith, c .loop-rest .inv .0, c .loop-rest .inv .3)) some refl (c .loop-rest .inv .1);
+      sized = length-set (c .loop-rest .out) (c .loop-rest .n) _ ∙ c .loop-rest .inv .3;
       stays = stays-more (c .loop-rest .out) (c .args .out .now) (c .loop-rest .n) _ (c .loop-rest .inv .2);
     }
 
@@ -35,5 +36,6 @@ returns c =
     record {
       within = omega (arith, c .loop-rest .inv .0);
       filled = sym (append-nil _) ∙ (ap (λ l. map seen (take (c .loop-rest .n) (c .loop-rest .out)) ++ trimmed (23 - c .loop-rest .n) (lexed l)) (sym none) ∙ c .loop-rest .inv .1);
+      sized = c .loop-rest .inv .3;
       stays = c .loop-rest .inv .2;
     }

@@ -1,0 +1,9 @@
+pub mod Content
+pub mod Operations
+pub mod Lines
+pub mod Numbers
+pub mod Ends
+pub mod Reading
+pub mod Writing
+pub mod Sheets
+pub mod Laws

@@ -1,0 +1,9 @@
+// Hand-over sheets: reading them from bytes and writing them back.
+mod kept;
+mod operations;
+mod parts;
+
+pub use kept::Sheet;
+pub use parts::Cell;
+pub use parts::LineFault;
+pub use parts::Refusal;
