@@ -4,3 +4,8 @@ pub mod Arguments
 pub mod OpLines
 pub mod Ending
 pub mod LineLoop
+pub mod LinesOut
+pub mod Overlaid
+pub mod LinesPut
+pub mod Lawfulness
+pub mod Overwritten

@@ -5,5 +5,6 @@ pub mod Numbers
 pub mod Ends
 pub mod Reading
 pub mod Writing
+pub mod Output
 pub mod Sheets
 pub mod Laws

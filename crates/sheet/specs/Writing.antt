@@ -22,14 +22,22 @@ use Rattle.sheet.specs.Operations.{letter, numbers}
 abbrev pub line-end : List ℕ
 line-end = codes ")\n"
 
+-- a value's line, from the text in front of it and its form
+abbrev pub value-text : List ℕ → List ℕ → List ℕ
+value-text head form = head ++ (form ++ line-end)
+
 abbrev pub task-text : ℕ → List ℕ
 task-text owed = task-head ++ (decimal owed ++ line-end)
 
 abbrev pub spaced : ℕ → List ℕ
 spaced n = 32 ∷ decimal n
 
+-- `(`, a letter, numbers after single spaces, `)` and a line feed
+abbrev pub op-words : ℕ → List ℕ → List ℕ
+op-words l ns = 40 ∷ l ∷ (joined spaced ns ++ line-end)
+
 abbrev pub op-text : Op → List ℕ
-op-text op = 40 ∷ letter op ∷ (joined spaced (numbers op) ++ line-end)
+op-text op = op-words (letter op) (numbers op)
 
 abbrev pub tasks-text : List ℕ → List (List Op) → List ℕ
 tasks-text [] cs = []
@@ -42,10 +50,10 @@ every p (x ∷ xs) = p x && every p xs
 
 module _ {V : Type 0} (form : V → Option (List ℕ)) where
   abbrev pub cell-text : Cell V → List ℕ
-  cell-text c = cell-head (c .mode) ++ (valueOr (form (c .value)) [] ++ line-end)
+  cell-text c = value-text (cell-head (c .mode)) (valueOr (form (c .value)) [])
 
   abbrev pub const-text : V → List ℕ
-  const-text v = const-head ++ (valueOr (form v) [] ++ line-end)
+  const-text v = value-text const-head (valueOr (form v) [])
 
   abbrev pub written : Content V → List ℕ
   written s = joined cell-text (s .cells) ++ (joined const-text (s .consts) ++ tasks-text (s .owed) (s .code))
