@@ -15,7 +15,7 @@ use Rattle.text.specs.Cut.{cut}
 use Rattle.text.specs.Number.{numeral}
 use Rattle.sheet.specs.Lines.{and-then, all-numbers}
 use Rattle.sheet.specs.Numbers.{Taken}
-use Rattle.sheet.proofs.Pieces.{other, cut-some, piece-first, piece-last}
+use Rattle.text.proofs.Pieces.{other, cut-some, piece-first, piece-last}
 
 -- numbers that stand before some others, if all are numbers
 abbrev pub prepended : List ℕ → Option (List ℕ) → Option (List ℕ)

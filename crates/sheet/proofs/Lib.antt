@@ -1,5 +1,4 @@
 pub mod Adding
-pub mod Pieces
 pub mod Arguments
 pub mod OpLines
 pub mod Ending
@@ -9,3 +8,17 @@ pub mod Overlaid
 pub mod LinesPut
 pub mod Lawfulness
 pub mod Overwritten
+mod Answered
+mod Rejoined
+mod Frames
+mod Numbers
+mod OpLetters
+mod OpTexts
+mod Places
+mod LastTask
+mod LineTexts
+mod Landing
+mod ReadThere
+mod Lengths
+mod OwnLines
+mod WrittenBack

@@ -19,7 +19,7 @@ use Rattle.sheet.specs.declared.parts.Refusal.the-variants.{Line}
 use Rattle.sheet.specs.Content.{Content, nothing}
 use Rattle.sheet.specs.Lines.{judged}
 use Rattle.sheet.specs.Reading.{settled, read-lines, read-text}
-use Rattle.sheet.proofs.Pieces.{other, cut-some, piece-first, piece-last}
+use Rattle.text.proofs.Pieces.{other, cut-some, piece-first, piece-last}
 
 module _ {V : Type 0} (reads : List Tok → Result V Fault) where
   pub short-text : (bs : List ℕ) → length bs ≤ 65536 → read-text reads bs ≡ read-lines reads 1 nothing (cut 10 bs)

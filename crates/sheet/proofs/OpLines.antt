@@ -25,7 +25,7 @@ use Rattle.sheet.specs.Content.{Content}
 use Rattle.sheet.specs.Lines.{where-some, all-numbers, lettered, op-line, line-fault, op-on, op-in}
 use Rattle.sheet.specs.Numbers.{Taken}
 use Rattle.sheet.specs.Operations.{suits, operation}
-use Rattle.sheet.proofs.Pieces.{other, piece-first, piece-last}
+use Rattle.text.proofs.Pieces.{other, piece-first, piece-last}
 
 skip : {A : Type 0} (b : Bool) (x y z : A) → b ≡ false → y ≡ z → cond b x y ≡ z
 skip b x y z e f = cond-false b x y e ∙ f

@@ -7,4 +7,5 @@ pub mod Reading
 pub mod Writing
 pub mod Output
 pub mod Sheets
+pub mod Refusals
 pub mod Laws

@@ -33,12 +33,15 @@ fn value_line<K: Kind>(head: &[u8], value: K) -> Line
     line
 }
 
-pub(crate) fn cell_line<K: Kind>(cell: Cell<K>) -> Line
-    ensures { λ r. ⌜ spelt r ≡ cell-text (K·Kind .form) cell ⌝ }
-{
-    match cell.mode {
-        Mode::Protected => value_line(b"(cell p ", cell.value),
-        Mode::Unprotected => value_line(b"(cell u ", cell.value),
+impl<K: Kind> Cell<K> {
+    // The cell's line as a sheet has it.
+    pub fn line(self) -> Line
+        ensures { λ r. ⌜ spelt r ≡ cell-text (K·Kind .form) self ⌝ }
+    {
+        match self.mode {
+            Mode::Protected => value_line(b"(cell p ", self.value),
+            Mode::Unprotected => value_line(b"(cell u ", self.value),
+        }
     }
 }
 

@@ -29,6 +29,16 @@ pub impl From<Fault> for LineFault as LineFaultFromFault {
     }
 }
 
+// What a refusal tells: its number, the layer that it comes from, two places and a cause.
+#[derive(Clone, Copy)]
+pub struct Notice {
+    pub number: u8,
+    pub layer: u8,
+    pub first: usize,
+    pub second: usize,
+    pub cause: u8,
+}
+
 // Why a sheet is not read, or not written.
 #[derive(Clone, Copy)]
 pub enum Refusal {

@@ -9,7 +9,6 @@ ghost use Rattle.sheet.specs.Output.{over};
 ghost use Rattle.sheet.specs.Sheets.{content};
 ghost use Rattle.sheet.specs.Writing.{cell-text, const-text, op-text, tasks-text, every, lawful, written, write-answer, write-out};
 use super::Sheet;
-use crate::lines_out::cell_line;
 use crate::lines_out::const_line;
 use crate::lines_out::op_line_of;
 use crate::lines_out::task_line;
@@ -28,7 +27,7 @@ fn put_cells<K: Kind>(out: &mut [u8], at: usize, cells: &[Cell<K>]) -> usize
 {
     let mut end = at;
     for i in 0..cells.len() {
-        end = put(out, end, &cell_line(cells[i]));
+        end = put(out, end, &cells[i].line());
     }
     end
 }

@@ -1,0 +1,9 @@
+use lib.Chars.{codes}
+use Rattle.std.proofs.shelf.Equals.{matches-decides, sameBytes-decides}
+use Rattle.std.proofs.shelf.Ways.{same-from-decides}
+use Rattle.std.specs.shelf.Text.{sameBytes}
+use Rattle.session.proofs.is_calls.Needs as need
+
+pub returns : need.returns
+returns c =
+    same-from-decides (c .eq .result) (sameBytes (c .args .line .now) (codes "(calls)")) (matches-decides (c .args .line .now) (codes "(calls)") (c .eq .result) (c .eq .ensures)) (sameBytes-decides (c .args .line .now) (codes "(calls)"))
