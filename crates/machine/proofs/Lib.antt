@@ -1,0 +1,16 @@
+pub mod Updates
+pub mod Events
+pub mod Frames
+pub mod Embeds
+pub mod Passing
+pub mod Quiet
+pub mod Wholes
+pub mod Determines
+pub mod Inverts
+pub mod Faithfully
+pub mod Singly
+pub mod Samples
+pub mod HandoverFacts
+pub mod Keeps
+pub mod Blocks
+pub mod Tabulated

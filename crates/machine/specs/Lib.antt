@@ -1,0 +1,12 @@
+pub mod Update
+pub mod Effect
+pub mod Strong
+pub mod Fault
+pub mod Separation
+pub mod Fragment
+pub mod MachineLaws
+pub mod FragmentLaws
+pub mod Sample
+pub mod Handover
+pub mod Waiting
+pub mod Table
