@@ -3,6 +3,7 @@ use mathlib.Core.Path.{_≡_, refl, subst}
 use mathlib.Core.Bool.{false≢true}
 use mathlib.Core.List.{List, [], _∷_}
 use lib.IntN.{ℤ}
+use Rattle.std.specs.shelf.Signed.{wrapped}
 use Rattle.std.specs.declared.option.Option.{Option}
 use Rattle.std.specs.declared.option.Option.the-variants.{Some, None}
 use Rattle.program.specs.declared.Op.{Op}
@@ -47,6 +48,7 @@ taken = (
 )
 
 pub added : Added
+unfolding wrapped
 added = (got (plays handover adder-first (Some start)), refl, reached handover start adder-first _ refl, refl, refl, refl)
 
 -- the way to the careless access, and to the blind one

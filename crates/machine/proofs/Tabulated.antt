@@ -1,10 +1,12 @@
 -- The table of operations and events, by computation.
 use mathlib.Core.Path.{refl}
+use Rattle.std.specs.shelf.Signed.{wrapped}
 use Rattle.machine.specs.Strong.{Side, fragment, driver}
 use Rattle.machine.specs.Table.{Both-sides, One-side, Turns, Tabulated}
 use Rattle.machine.proofs.Events.{none-some}
 
 both-sides : (side : Side) → Both-sides side
+unfolding wrapped
 both-sides fragment = record {
   reads = refl;
   writes = refl;
