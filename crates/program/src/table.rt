@@ -5,6 +5,7 @@ ghost use Rattle.std.specs.shelf.Lists.{sum};
 use crate::Op;
 
 mod edit;
+mod look;
 
 // The operations of at most 16 tasks, 1,024 in all, in one table: task after task, each by its first place and its length.
 #[derive(Clone, Copy)]

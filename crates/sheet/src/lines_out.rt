@@ -3,8 +3,8 @@ ghost use mathlib.Core.List.{[]};
 ghost use Prim.Native.Nat.{_≤_};
 ghost use lib.ListN.{length};
 ghost use Rattle.std.specs.Options.{valueOr};
-ghost use Rattle.text.specs.Line.{spelt};
-ghost use Rattle.sheet.specs.Writing.{value-text, cell-text, const-text, task-text, op-words, op-text};
+ghost use Rattle.text.specs.Line.{spelt, added};
+ghost use Rattle.sheet.specs.Writing.{line-end, value-text, cell-text, const-text, task-text, op-words, op-text};
 use crate::parts::Cell;
 use program::Mode;
 use program::Op;
@@ -21,6 +21,13 @@ fn form_of<K: Kind>(value: K) -> Line
     }
 }
 
+// Closes the bracket and the line.
+fn close(line: &mut Line)
+    ensures { λ _. ⌜ spelt (now (line .exit)) ≡ added (spelt (now (line .entry))) line-end ⌝ }
+{
+    line.extend(b")\n")
+}
+
 // The line of a value, after the text in front of it.
 fn value_line<K: Kind>(head: &[u8], value: K) -> Line
     ensures { λ r. ⌜ (length (now (head .entry)) ≤ 8 → spelt r ≡ value-text (now (head .entry)) (valueOr (K·Kind .form value) [])) ⌝ }
@@ -29,7 +36,7 @@ fn value_line<K: Kind>(head: &[u8], value: K) -> Line
     let mut line = Line::new();
     line.extend(head);
     line.extend(form.as_slice());
-    line.extend(b")\n");
+    close(&mut line);
     line
 }
 
@@ -57,7 +64,7 @@ pub(crate) fn task_line(owed: u8) -> Line
     let mut line = Line::new();
     line.extend(b"(task ");
     line.push_number(u64::from(owed));
-    line.extend(b")\n");
+    close(&mut line);
     line
 }
 
@@ -72,7 +79,7 @@ fn words(letter: u8, numbers: &[u16]) -> Line
         line.push(b' ');
         line.push_number(u64::from(*n));
     }
-    line.extend(b")\n");
+    close(&mut line);
     line
 }
 

@@ -1,6 +1,5 @@
 ghost use mathlib.Core.Path.{_≡_};
 ghost use mathlib.Core.List.{[], _∷_};
-ghost use lib.ListN.{length};
 ghost use Rattle.std.specs.Written.{decimal};
 ghost use Rattle.text.specs.Line.{spelt, added};
 use super::Line;
@@ -48,11 +47,5 @@ impl Line {
         ensures { λ r. ⌜ now r ≡ spelt (now (self .entry)) ⌝ }
     {
         &self.bytes[0..self.len]
-    }
-
-    pub fn len(&self) -> usize
-        ensures { λ r. ⌜ r ≡ length (spelt (now (self .entry))) ⌝ }
-    {
-        self.len
     }
 }

@@ -12,4 +12,4 @@ pub returns : need.returns
 returns c =
     let n = c .args .owed in
     let d = length-decimal-le 3 n (omega arith) (omega (arith, c .fits .owed)) (omega (arith, c .fits .owed)) in
-    three task-head (decimal n) line-end (spelt (c .new-line .result)) (spelt (c .extend .last .self)) (spelt (c .push-number .last .self)) (spelt (c .extend-2 .last .self)) (c .new-line .ensures) (c .extend .ensures) (c .push-number .ensures ∙ ap (λ m. added (spelt (c .extend .last .self)) (decimal m)) (c .from .ensures)) (c .extend-2 .ensures) (omega arith)
+    three task-head (decimal n) line-end (spelt (c .new-line .result)) (spelt (c .extend .last .self)) (spelt (c .push-number .last .self)) (spelt (c .close .last .line)) (c .new-line .ensures) (c .extend .ensures) (c .push-number .ensures ∙ ap (λ m. added (spelt (c .extend .last .self)) (decimal m)) (c .from .ensures)) (c .close .ensures) (omega arith)

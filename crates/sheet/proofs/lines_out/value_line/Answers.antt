@@ -11,4 +11,4 @@ pub returns : need.returns
 returns g c few =
     let form = valueOr (g .K·Kind .form (c .args .value)) [] in
     let short = formed-short (g .K·Kind .form (c .args .value)) (g .K·Kind·met .short (c .args .value)) in
-    three (c .args .head .now) form line-end (spelt (c .new-line .result)) (spelt (c .extend .last .self)) (spelt (c .extend-2 .last .self)) (spelt (c .extend-3 .last .self)) (c .new-line .ensures) (c .extend .ensures) (c .extend-2 .ensures ∙ ap (added (spelt (c .extend .last .self))) (c .as-slice .ensures ∙ c .form-of-form .ensures)) (c .extend-3 .ensures) (omega arith)
+    three (c .args .head .now) form line-end (spelt (c .new-line .result)) (spelt (c .extend .last .self)) (spelt (c .extend-2 .last .self)) (spelt (c .close .last .line)) (c .new-line .ensures) (c .extend .ensures) (c .extend-2 .ensures ∙ ap (added (spelt (c .extend .last .self))) (c .as-slice .ensures ∙ c .form-of-form .ensures)) (c .close .ensures) (omega arith)

@@ -20,4 +20,4 @@ loop-n-again c =
 
 pub returns : need.returns
 returns c few =
-    words-short (c .args .letter) (c .args .numbers .now) (spelt (c .loop-n .line)) (spelt (c .extend .last .self)) (λ i. omega (arith, c .typed .numbers i)) (c .loop-n .inv ∙ ap (λ ns. added (40 ∷ c .args .letter ∷ []) (joined spaced ns)) (take-all (c .loop-n .n-index) (c .args .numbers .now) (c .loop-n-test .left))) (c .extend .ensures) few
+    words-short (c .args .letter) (c .args .numbers .now) (spelt (c .loop-n .line)) (spelt (c .close .last .line)) (λ i. omega (arith, c .typed .numbers i)) (c .loop-n .inv ∙ ap (λ ns. added (40 ∷ c .args .letter ∷ []) (joined spaced ns)) (take-all (c .loop-n .n-index) (c .args .numbers .now) (c .loop-n-test .left))) (c .close .ensures) few
