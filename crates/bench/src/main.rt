@@ -15,11 +15,22 @@ use value::Whole;
 use value::WholeKind;
 
 // One printed line a call line, counted over the whole input from `line` on.
-fn print_calls(heap: Global, out: &mut Vec<u8>, calls: &[u8], line: usize) -> Result<(), AllocError> {
+fn print_calls(
+    heap: Global,
+    out: &mut Vec<u8>,
+    calls: &[u8],
+    line: usize,
+) -> Result<(), AllocError> {
     let mut rest = calls;
     let mut number = line;
     while !rest.is_empty() {
-        let bad = Notice { number: 3, layer: 1, first: number, second: 0, cause: 0 };
+        let bad = Notice {
+            number: 3,
+            layer: 1,
+            first: number,
+            second: 0,
+            cause: 0,
+        };
         print_notice(heap, out, bad)?;
         let n = before(b'\n', rest);
         if n == rest.len() {

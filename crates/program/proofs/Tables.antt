@@ -48,12 +48,12 @@ module _ {X : Type 0} (xs : List X) (u : ℕ) (fs ns : List ℕ) (n : ℕ) (k : 
     within = k .within;
     filled = ap sum (take-more-set ns n 0 (omega (arith, k .lens))) ∙ (sumBy-push (λ x. x) (take n ns) 0 ∙ omega (arith, k .filled));
     placed = λ t l.
-      ⊎-elim
-      (λ e.
+        ⊎-elim
+        (λ e.
         ap (λ m. getD (set fs n u) m 0) e
         ∙ (getD-set-same fs n u 0 (omega (arith, k .firsts)) ∙ (sym (k .filled) ∙ (ap sum (sym (take-set-le n ns n 0 (omega arith))) ∙ ap (λ m. sum (take m (set ns n 0))) (sym e)))))
-      (λ ne. getD-set-other fs n t u 0 ne ∙ (k .placed t (omega arith) ∙ ap sum (sym (take-set-le t ns n 0 (omega arith)))))
-      (cases-eq t n)
+        (λ ne. getD-set-other fs n t u 0 ne ∙ (k .placed t (omega arith) ∙ ap sum (sym (take-set-le t ns n 0 (omega arith)))))
+        (cases-eq t n);
   }
 
   pub short : 0 < n → getD ns (n - 1) 0 ≤ u
@@ -84,7 +84,7 @@ module _ {X : Type 0} (xs : List X) (u : ℕ) (fs ns : List ℕ) (n : ℕ) (k : 
     few = k .few;
     within = omega arith;
     filled = ap sum (last-more h) ∙ omega (arith, sumBy-push (λ x. x) (take (n - 1) ns) (getD ns (n - 1) 0 + 1), sumBy-push (λ x. x) (take (n - 1) ns) (getD ns (n - 1) 0), ap sum (last-apart h), k .filled);
-    placed = λ t l. k .placed t l ∙ ap sum (sym (take-set-le t ns (n - 1) _ (omega arith)))
+    placed = λ t l. k .placed t l ∙ ap sum (sym (take-set-le t ns (n - 1) _ (omega arith)));
   }
 
   lens-at : (t : ℕ) → t < n → getD (take n ns) t 0 ≡ getD ns t 0
@@ -125,5 +125,5 @@ of p = record {
   few = p .sizes .3;
   within = p .sizes .4;
   filled = p .filled;
-  placed = p .placed
+  placed = p .placed;
 }

@@ -16,16 +16,43 @@ pub enum Mode {
 #[derive(Clone, Copy)]
 pub enum Op {
     Finish,
-    Read { to: u8, cell: u8 },
-    Write { cell: u8, from: u8 },
-    Constant { to: u8, constant: u8 },
-    Apply { operation: Operation, to: u8, left: u8, right: u8 },
-    Jump { target: u16 },
-    JumpIfFalse { test: u8, target: u16 },
-    Await { test: u8 },
-    Start { task: u8 },
+    Read {
+        to: u8,
+        cell: u8,
+    },
+    Write {
+        cell: u8,
+        from: u8,
+    },
+    Constant {
+        to: u8,
+        constant: u8,
+    },
+    Apply {
+        operation: Operation,
+        to: u8,
+        left: u8,
+        right: u8,
+    },
+    Jump {
+        target: u16,
+    },
+    JumpIfFalse {
+        test: u8,
+        target: u16,
+    },
+    Await {
+        test: u8,
+    },
+    Start {
+        task: u8,
+    },
     Leave,
     Enter,
-    Protect { cell: u8 },
-    Unprotect { cell: u8 },
+    Protect {
+        cell: u8,
+    },
+    Unprotect {
+        cell: u8,
+    },
 }

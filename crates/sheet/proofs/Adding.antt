@@ -44,7 +44,7 @@ module _ {V : Type 0} (s : Content V) where
         cells = s .cells;
         consts = s .consts;
         owed = (ap (λ o. o ++ (n ∷ [])) is ∙ (sym (take-more-set owed (length (s .code)) n (omega arith)) ∙ ap (λ m. take m (set owed (length (s .code)) n)) (sym len))) i;
-        code = sym e i
+        code = sym e i;
       })))
 
   pub op-more : (owed : List ℕ) (code : List (List Op)) (op : Op) → s .owed ≡ take (length (s .code)) owed → ltb (sumBy length (s .code)) 1024 ≡ true → code ≡ on-last (s .code) op → op-on s (Ok op) ≡ Ok (record { cells = s .cells; consts = s .consts; owed = take (length code) owed; code = code })
@@ -54,5 +54,5 @@ module _ {V : Type 0} (s : Content V) where
         cells = s .cells;
         consts = s .consts;
         owed = (is ∙ ap (λ m. take m owed) (sym (ap length e ∙ length-on-last (s .code) op))) i;
-        code = sym e i
+        code = sym e i;
       }))

@@ -59,8 +59,8 @@ bad-piece bs n e h no-number =
     ⊎-elim
     (λ l. first-bad _ _ _ (piece-first 32 bs n e l) no-number)
     (λ l.
-      let same : n ≡ length bs = omega arith in
-      first-bad bs [] _ (piece-last 32 bs n e same) (sym (ap numeral (take-all (n - 0) bs (omega (arith, sub-zero n)))) ∙ no-number))
+    let same : n ≡ length bs = omega arith in
+    first-bad bs [] _ (piece-last 32 bs n e same) (sym (ap numeral (take-all (n - 0) bs (omega (arith, sub-zero n)))) ∙ no-number))
     (cases-lt n (length bs))
 
 pub bad : (all : Option (List ℕ)) (out bs : List ℕ) (k n : ℕ) → n ≡ leading (other 32) bs → n ≤ length bs → numeral (take (n - 0) bs) ≡ None → all ≡ prepended (take k out) (all-numbers (cut 32 bs)) → Taken None out all

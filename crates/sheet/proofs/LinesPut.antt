@@ -20,9 +20,9 @@ pub record Put (at : ℕ) (text start out : List ℕ) (end : ℕ) : Type 0 where
 pub put-more : (at : ℕ) (a b c start out next : List ℕ) (end after : ℕ) → Put at a start out end → next ≡ over end b out → after ≡ end + length b → c ≡ a ++ b → Put at c start next after
 put-more at a b c start out next end after p e f is = record {
   laid =
-    e
-    ∙ ((λ i. over (p .ends i) b (p .laid i)) ∙ (sym (over-append at a b start) ∙ ap (λ l. over at l start) (sym is)));
-  ends = omega (arith, p .ends, length-append a b, ap length is)
+      e
+      ∙ ((λ i. over (p .ends i) b (p .laid i)) ∙ (sym (over-append at a b start) ∙ ap (λ l. over at l start) (sym is)));
+  ends = omega (arith, p .ends, length-append a b, ap length is);
 }
 
 pub put-none : (at : ℕ) (start : List ℕ) → Put at [] start start at

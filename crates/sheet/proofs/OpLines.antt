@@ -46,11 +46,11 @@ module _ (cells consts : ℕ) (line inside : List ℕ) (n : ℕ) (is : framed (c
       opened
       ∙ ⊎-elim
       (λ l.
-        ap (lettered cells consts) (piece-first 32 inside n at l)
-        ∙ cond-false _ _ _ (ne-eqb (length (take (n - 0) inside)) 1 (λ e. h (omega (arith, sub-zero n, length-take-le (n - 0) inside (omega (arith, sub-zero n)))))))
+      ap (lettered cells consts) (piece-first 32 inside n at l)
+      ∙ cond-false _ _ _ (ne-eqb (length (take (n - 0) inside)) 1 (λ e. h (omega (arith, sub-zero n, length-take-le (n - 0) inside (omega (arith, sub-zero n)))))))
       (λ l.
-        let same : n ≡ length inside = omega arith in
-        ap (lettered cells consts) (piece-last 32 inside n at same) ∙ cond-false _ _ _ (ne-eqb (length inside) 1 (λ e. h (omega arith))))
+      let same : n ≡ length inside = omega arith in
+      ap (lettered cells consts) (piece-last 32 inside n at same) ∙ cond-false _ _ _ (ne-eqb (length inside) 1 (λ e. h (omega arith))))
       (cases-lt n (length inside))
 
   -- a letter alone

@@ -9,5 +9,5 @@ content s = record {
   cells = take (s .«cell_count») (s .cells);
   consts = take (s .«const_count») (s .consts);
   owed = take (length (code (s .program))) (s .owed);
-  code = code (s .program)
+  code = code (s .program);
 }

@@ -4,8 +4,8 @@ ghost use lib.ListN.{length};
 use crate::parts::Cell;
 use program::Program;
 
-mod lines;
 mod ends;
+mod lines;
 mod reading;
 mod writing;
 

@@ -91,8 +91,21 @@ pub(crate) fn op_line_of(op: Op) -> Line
         Op::Read { to, cell } => words(b'r', &[u16::from(to), u16::from(cell)]),
         Op::Write { cell, from } => words(b'w', &[u16::from(cell), u16::from(from)]),
         Op::Constant { to, constant } => words(b'k', &[u16::from(to), u16::from(constant)]),
-        Op::Apply { operation, to, left, right } => {
-            words(b'a', &[u16::from(operation.number()), u16::from(to), u16::from(left), u16::from(right)])
+        Op::Apply {
+            operation,
+            to,
+            left,
+            right,
+        } => {
+            words(
+                b'a',
+                &[
+                    u16::from(operation.number()),
+                    u16::from(to),
+                    u16::from(left),
+                    u16::from(right),
+                ],
+            )
         }
         Op::Jump { target } => words(b'j', &[target]),
         Op::JumpIfFalse { test, target } => words(b'z', &[u16::from(test), target]),

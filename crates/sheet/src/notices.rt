@@ -9,13 +9,25 @@ use std::fmt;
 fn on_sheet(number: u8, line: usize) -> Notice
     ensures { λ r. ⌜ r ≡ notice number 1 line 0 0 ⌝ }
 {
-    Notice { number, layer: 1, first: line, second: 0, cause: 0 }
+    Notice {
+        number,
+        layer: 1,
+        first: line,
+        second: 0,
+        cause: 0,
+    }
 }
 
 fn on_station(number: u8) -> Notice
     ensures { λ r. ⌜ r ≡ notice number 2 0 0 0 ⌝ }
 {
-    Notice { number, layer: 2, first: 0, second: 0, cause: 0 }
+    Notice {
+        number,
+        layer: 2,
+        first: 0,
+        second: 0,
+        cause: 0,
+    }
 }
 
 impl Refusal {
@@ -25,9 +37,18 @@ impl Refusal {
     {
         match self {
             Refusal::TooLong => on_sheet(2, 0),
-            Refusal::Line { fault: LineFault::BadForm, line } => on_sheet(3, line),
-            Refusal::Line { fault: LineFault::PastBound, line } => on_sheet(4, line),
-            Refusal::Line { fault: LineFault::TooMany, line } => on_sheet(5, line),
+            Refusal::Line {
+                fault: LineFault::BadForm,
+                line,
+            } => on_sheet(3, line),
+            Refusal::Line {
+                fault: LineFault::PastBound,
+                line,
+            } => on_sheet(4, line),
+            Refusal::Line {
+                fault: LineFault::TooMany,
+                line,
+            } => on_sheet(5, line),
             Refusal::OpenTask { line } => on_sheet(6, line),
             Refusal::StrayTarget { line } => on_sheet(7, line),
             Refusal::Unlawful => on_station(8),

@@ -22,7 +22,11 @@ use value::Operation;
 fn register(n: u64) -> Result<u8, Fault>
     ensures { λ r. ⌜ r ≡ cond (leb n 3) (Ok n) (Err Bound) ⌝ }
 {
-    if n <= 3 { Ok(n as u8) } else { Err(Fault::Bound) }
+    if n <= 3 {
+        Ok(n as u8)
+    } else {
+        Err(Fault::Bound)
+    }
 }
 
 // A cell or a constant that is given.
@@ -30,7 +34,11 @@ fn below(n: u64, count: usize) -> Result<u8, Fault>
     requires { ⌜ count ≤ 64 ⌝ }
     ensures { λ r. ⌜ r ≡ cond (ltb n count) (Ok n) (Err Bound) ⌝ }
 {
-    if n < count as u64 { Ok(n as u8) } else { Err(Fault::Bound) }
+    if n < count as u64 {
+        Ok(n as u8)
+    } else {
+        Err(Fault::Bound)
+    }
 }
 
 // A jump's target: all that lie past every task are one.
@@ -53,7 +61,12 @@ fn apply(o: u64, d: u64, i: u64, j: u64) -> Result<Op, Fault>
     let Some(operation) = Operation::from_number(o) else {
         return Err(Fault::Bound);
     };
-    Ok(Op::Apply { operation, to: register(d)?, left: register(i)?, right: register(j)? })
+    Ok(Op::Apply {
+        operation,
+        to: register(d)?,
+        left: register(i)?,
+        right: register(j)?,
+    })
 }
 
 // The operation that a letter and its numbers write.
@@ -63,18 +76,36 @@ fn operation(letter: char, args: &[u64], cells: usize, consts: usize) -> Result<
     ensures { λ r. ⌜ r ≡ operation-of cells consts letter (now (args .entry)) ⌝ }
 {
     match (letter, args) {
-        ('r', [d, c]) => Ok(Op::Read { to: register(*d)?, cell: below(*c, cells)? }),
-        ('w', [c, s]) => Ok(Op::Write { cell: below(*c, cells)?, from: register(*s)? }),
-        ('k', [d, n]) => Ok(Op::Constant { to: register(*d)?, constant: below(*n, consts)? }),
+        ('r', [d, c]) => Ok(Op::Read {
+            to: register(*d)?,
+            cell: below(*c, cells)?,
+        }),
+        ('w', [c, s]) => Ok(Op::Write {
+            cell: below(*c, cells)?,
+            from: register(*s)?,
+        }),
+        ('k', [d, n]) => Ok(Op::Constant {
+            to: register(*d)?,
+            constant: below(*n, consts)?,
+        }),
         ('a', [o, d, i, j]) => apply(*o, *d, *i, *j),
         ('j', [n]) => Ok(Op::Jump { target: place(*n) }),
-        ('z', [s, n]) => Ok(Op::JumpIfFalse { test: register(*s)?, target: place(*n) }),
-        ('b', [s]) => Ok(Op::Await { test: register(*s)? }),
+        ('z', [s, n]) => Ok(Op::JumpIfFalse {
+            test: register(*s)?,
+            target: place(*n),
+        }),
+        ('b', [s]) => Ok(Op::Await {
+            test: register(*s)?,
+        }),
         ('s', [t]) => Ok(Op::Start { task: task(*t) }),
         ('l', []) => Ok(Op::Leave),
         ('e', []) => Ok(Op::Enter),
-        ('p', [c]) => Ok(Op::Protect { cell: below(*c, cells)? }),
-        ('u', [c]) => Ok(Op::Unprotect { cell: below(*c, cells)? }),
+        ('p', [c]) => Ok(Op::Protect {
+            cell: below(*c, cells)?,
+        }),
+        ('u', [c]) => Ok(Op::Unprotect {
+            cell: below(*c, cells)?,
+        }),
         ('f', []) => Ok(Op::Finish),
         _ => Err(Fault::Form),
     }

@@ -20,7 +20,7 @@ use Rattle.std.proofs.shelf.Ways.{tells}
 use Rattle.std.proofs.shelf.Numerals.{Numerals, numerals-by-value, tells-digits, tells-allDigits, digit-at}
 use Rattle.std.proofs.shelf.Decimals.{same-from-decimal, decimal-value, digits-decimal, decimal-some, length-decimal-le, first-decimal, decimal-digit, value-decimal}
 use Rattle.std.proofs.shelf.Digits.{value-lt, value-more, digits-more}
-use Rattle.text.specs.Number.{tidy, numeral}
+use Rattle.text.specs.Number.{digit-of, tidy, numeral}
 
 pub own : Numerals (λ ds. allDigits ds ≡ true) (value 10)
 own = numerals-by-value (λ ds. allDigits ds ≡ true) tells-allDigits
@@ -31,12 +31,30 @@ pub record Sofar (bs : List ℕ) (i n : ℕ) : Type 0 where
   pub all : Digits 10 (take i bs)
   pub fits : n < 10 ^ i
 
-pub digit-of : (c : ℕ) → In 48 57 c → digitValue c ≡ c - 48
-digit-of c h = grind (arith, tells)
+digit-value : (c : ℕ) → In 48 57 c → digitValue c ≡ c - 48
+digit-value c h = grind (arith, tells)
+
+pub not-digit : (b : ℕ) → None ≡ digit-of b → In 48 57 b → ⊥
+not-digit b e h =
+    let s : digit-of b ≡ Some (b - 48) = cond-true (leb 48 b && leb b 57) (Some (b - 48)) None (and-from _ _ (le-leb 48 b (h .0)) (le-leb b 57 (h .1))) in
+    let z : _≡_ {A = ℕ} 0 1 = cc in
+    omega arith
+
+pub a-digit : (b d : ℕ) → Some d ≡ digit-of b → In 48 57 b × (d ≡ b - 48)
+a-digit b d e =
+    ⊎-elim
+    (λ y.
+    let is = and-parts (leb 48 b) (leb b 57) y in
+    let s : Some d ≡ Some (b - 48) = e ∙ cond-true (leb 48 b && leb b 57) (Some (b - 48)) None y in
+    ((leb-true 48 b (is .0), leb-true b 57 (is .1)), cc))
+    (λ f.
+    let s : Some d ≡ None = e ∙ cond-false (leb 48 b && leb b 57) (Some (b - 48)) None f in
+    absurd (let z : _≡_ {A = ℕ} 0 1 = cc in omega arith))
+    (cases-bool (leb 48 b && leb b 57))
 
 pub turn : (bs : List ℕ) (i n : ℕ) → Sofar bs i n → i < length bs → In 48 57 (getD bs i 0) → Sofar bs (i + 1) (n * 10 + (getD bs i 0 - 48))
 turn bs i n s h d =
-    let v : digitValue (getD bs i 0) ≡ getD bs i 0 - 48 = digit-of _ d in
+    let v : digitValue (getD bs i 0) ≡ getD bs i 0 - 48 = digit-value _ d in
     record {
       is = sym (value-more 10 bs i h ∙ cc (v, s .is));
       all = digits-more 10 bs i h (s .all) (omega arith);

@@ -1,5 +1,15 @@
 ghost use mathlib.Core.Path.{_≡_};
-ghost use Rattle.text.specs.Number.{numeral};
+ghost use Rattle.text.specs.Number.{digit-of, numeral};
+
+// What a byte counts for as a decimal digit.
+fn digit(b: u8) -> Option<u64>
+    ensures { λ r. ⌜ r ≡ digit-of b ⌝ }
+{
+    match b {
+        b'0'..=b'9' => Some(u64::from(b - b'0')),
+        _ => None,
+    }
+}
 
 // The number that the part writes, if it has one to ten digits and no needless zero in front.
 pub fn number(part: &[u8]) -> Option<u64>
@@ -13,10 +23,10 @@ pub fn number(part: &[u8]) -> Option<u64>
     }
     let mut n: u64 = 0;
     for b in part {
-        match *b {
-            d @ b'0'..=b'9' => n = n * 10 + u64::from(d - b'0'),
-            _ => return None,
-        }
+        let Some(d) = digit(*b) else {
+            return None;
+        };
+        n = n * 10 + d;
     }
     Some(n)
 }

@@ -14,7 +14,13 @@ impl Program {
     pub fn new() -> Program
         ensures { λ r. ⌜ code r ≡ [] ⌝ }
     {
-        Program { ops: [Op::Finish; 1024], used: 0, firsts: [0; 16], lens: [0; 16], count: 0 }
+        Program {
+            ops: [Op::Finish; 1024],
+            used: 0,
+            firsts: [0; 16],
+            lens: [0; 16],
+            count: 0,
+        }
     }
 
     // One more task, with no operation yet; false where there are 16.

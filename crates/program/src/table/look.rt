@@ -29,7 +29,13 @@ impl Program {
     pub fn op(&self, t: usize, place: usize) -> Op
         ensures { λ r. ⌜ r ≡ getD (getD (code (now (self .entry))) t []) place Finish ⌝ }
     {
-        let Program { ops, firsts, lens, count, .. } = self;
+        let Program {
+            ops,
+            firsts,
+            lens,
+            count,
+            ..
+        } = self;
         if t < *count && place < lens[t] as usize {
             ops[firsts[t] as usize + place]
         } else {

@@ -22,8 +22,18 @@ impl<K: Kind> Sheet<K> {
         ensures { λ r. ⌜ content r ≡ nothing ⌝ }
     {
         let zero = K::nil();
-        let cell = Cell { mode: Mode::Protected, value: zero };
-        Sheet { cells: [cell; 64], cell_count: 0, consts: [zero; 64], const_count: 0, owed: [0; 16], program: Program::new() }
+        let cell = Cell {
+            mode: Mode::Protected,
+            value: zero,
+        };
+        Sheet {
+            cells: [cell; 64],
+            cell_count: 0,
+            consts: [zero; 64],
+            const_count: 0,
+            owed: [0; 16],
+            program: Program::new(),
+        }
     }
 
     // What is looked at after the last line.
@@ -53,7 +63,10 @@ impl<K: Kind> Sheet<K> {
         while !rest.is_empty() {
             let n = before(b'\n', rest);
             if n == rest.len() {
-                return Err(Refusal::Line { fault: LineFault::BadForm, line });
+                return Err(Refusal::Line {
+                    fault: LineFault::BadForm,
+                    line,
+                });
             }
             if let Err(fault) = sheet.take_line(&rest[0..n]) {
                 return Err(Refusal::Line { fault, line });

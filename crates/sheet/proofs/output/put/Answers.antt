@@ -12,7 +12,7 @@ pub loop-i-again : need.loop-i-again
 loop-i-again c =
     let bs = c .as-slice-bytes .result .now in
     elim (c .if-at-i .came) [
-      then-at-i w ↦ w .out-is ∙ byte-put (c .args .at) bs (c .loop-i .out) (c .args .out .now) (c .loop-i .i) (c .loop-i-test .taken) (c .loop-i .inv)
+      | then-at-i w ↦ w .out-is ∙ byte-put (c .args .at) bs (c .loop-i .out) (c .args .out .now) (c .loop-i .i) (c .loop-i-test .taken) (c .loop-i .inv)
       | else-at-i w ↦ w .out-is ∙ byte-past (c .args .at) bs (c .loop-i .out) (c .args .out .now) (c .loop-i .i) (c .loop-i-test .taken) (w .if-at-i .left) (c .loop-i .inv)
     ]
 
@@ -24,5 +24,5 @@ returns c =
     record {
       text = c .loop-i .inv ∙ ap (λ l. over (c .args .at) l (c .args .out .now)) (take-all (c .loop-i .i) bs (c .loop-i-test .left) ∙ c .as-slice-bytes .ensures);
       end = ap (λ l. c .args .at + length l) (c .as-slice-bytes .ensures);
-      bound = omega (arith, ap length (c .as-slice-bytes .ensures), line .ok .0)
+      bound = omega (arith, ap length (c .as-slice-bytes .ensures), line .ok .0);
     }

@@ -8,7 +8,7 @@ use Rattle.std.specs.declared.option.Option.the-variants.{Some}
 use Rattle.std.proofs.shelf.Lists.{take-all}
 use Rattle.std.proofs.shelf.Ways.{tells}
 use Rattle.text.specs.Number.{tidy}
-use Rattle.text.proofs.Numerals.{own, turn, no-number, no-digit, named}
+use Rattle.text.proofs.Numerals.{own, not-digit, a-digit, turn, no-number, no-digit, named}
 use Rattle.text.proofs.decimals.number.Needs as need
 
 pub returns-then-part-eq0 : need.returns-then-part-eq0
@@ -18,13 +18,12 @@ pub returns-then-part-ne1 : need.returns-then-part-ne1
 returns-then-part-ne1 c = grind (arith, tells)
 
 pub returns-in-rest : need.returns-in-rest
-returns-in-rest c = sym (no-number (c .args .part .now) (no-digit _ (c .loop-b .b-index) (c .loop-b-test .taken) (λ d. omega arith)))
-
-pub returns-in-rest·2 : need.returns-in-rest·2
-returns-in-rest·2 c = sym (no-number (c .args .part .now) (no-digit _ (c .loop-b .b-index) (c .loop-b-test .taken) (λ d. omega arith)))
+returns-in-rest c = sym (no-number (c .args .part .now) (no-digit _ (c .loop-b .b-index) (c .loop-b-test .taken) (not-digit _ (c .in-rest .ensures tt))))
 
 pub loop-b-again : need.loop-b-again
-loop-b-again c = rw (c .from .ensures) (turn _ _ _ (c .loop-b .inv) (c .loop-b-test .taken) (omega arith, omega arith))
+loop-b-again c =
+    let d = a-digit _ (c .in-Some .d) (c .in-Some .ensures tt) in
+    rw (d .1) (turn _ _ _ (c .loop-b .inv) (c .loop-b-test .taken) (d .0))
 
 pub returns : need.returns
 returns c =

@@ -17,10 +17,10 @@ returns-then-t-eq0 c =
     let u = total (p .ops) (p .used) (p .firsts) (p .lens) (p .count) (of p) in
     record {
       value = elim (c .then-t-eq0 .came) [
-        then-t-eq0·by·then-t-eq0 w ↦ sym (and-left (ltb 0 (length (code p))) (ltb (sumBy length (code p)) 1024) (le-ltb 0 (length (code p)) (omega (arith, w .if-t-eq0 .taken))))
+        | then-t-eq0·by·then-t-eq0 w ↦ sym (and-left (ltb 0 (length (code p))) (ltb (sumBy length (code p)) 1024) (le-ltb 0 (length (code p)) (omega (arith, w .if-t-eq0 .taken))))
         | then-t-eq0·by·else-t-eq0·then-n-ge1024 w ↦ sym (and-right (ltb 0 (length (code p))) (ltb (sumBy length (code p)) 1024) (le-ltb (sumBy length (code p)) 1024 (omega (arith, w .if-n-ge1024 .taken))))
       ];
-      after = refl
+      after = refl;
     }
 
 pub add-self-2 : need.add-self-2
@@ -43,5 +43,5 @@ returns c =
     let u = total (p .ops) (p .used) (p .firsts) (p .lens) (p .count) (of p) in
     record {
       value = sym (and-from (ltb 0 (length (code p))) (ltb (sumBy length (code p)) 1024) (lt-ltb 0 (length (code p)) (omega arith)) (lt-ltb (sumBy length (code p)) 1024 (omega arith)));
-      after = op-added (p .ops) (p .used) (p .firsts) (p .lens) (p .count) (of p) (c .args .op) some (c .if-n-ge1024 .left)
+      after = op-added (p .ops) (p .used) (p .firsts) (p .lens) (p .count) (of p) (c .args .op) some (c .if-n-ge1024 .left);
     }

@@ -16,5 +16,5 @@ returns c =
     let n = tasks (p .ops) (p .used) (p .firsts) (p .lens) (p .count) (of p) in
     record {
       value = sym (lt-ltb _ 16 (omega arith));
-      after = task-added (p .ops) (p .used) (p .firsts) (p .lens) (p .count) (of p) (c .if-t-ge16 .left)
+      after = task-added (p .ops) (p .used) (p .firsts) (p .lens) (p .count) (of p) (c .if-t-ge16 .left);
     }

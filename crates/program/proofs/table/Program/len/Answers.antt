@@ -16,5 +16,5 @@ returns-else-t-count c =
     let p = c .args .self .now in
     record {
       value = sym (ap length (len-past (p .ops) (p .used) (p .firsts) (p .lens) (p .count) (of p) (c .args .t) (c .if-t-count .left)));
-      bound = omega arith
+      bound = omega arith;
     }

@@ -20,8 +20,8 @@ pub returns-else-t-count : need.returns-else-t-count
 returns-else-t-count c =
     let p = c .args .self .now in
     elim (c .else-t-count .came) [
-      else-t-count·by·then-t-count·else-place-lens w ↦
-        sym (op-past (p .ops) (p .used) (p .firsts) (p .lens) (p .count) (of p) (c .args .t) (c .args .place) Finish (w .if-t-count .taken) (w .if-place-lens .left))
+      | else-t-count·by·then-t-count·else-place-lens w ↦
+          sym (op-past (p .ops) (p .used) (p .firsts) (p .lens) (p .count) (of p) (c .args .t) (c .args .place) Finish (w .if-t-count .taken) (w .if-place-lens .left))
       | else-t-count·by·else-t-count w ↦
-        sym (ap (λ l. getD l (c .args .place) Finish) (len-past (p .ops) (p .used) (p .firsts) (p .lens) (p .count) (of p) (c .args .t) (w .if-t-count .left)))
+          sym (ap (λ l. getD l (c .args .place) Finish) (len-past (p .ops) (p .used) (p .firsts) (p .lens) (p .count) (of p) (c .args .t) (w .if-t-count .left)))
     ]

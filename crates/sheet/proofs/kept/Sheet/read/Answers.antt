@@ -22,9 +22,10 @@ returns-in-Err g c =
     ∙ refused (g .K·Kind .reads) (c .loop-rest .line) (content (c .loop-rest .sheet)) (c .loop-rest .rest .now) (c .before-n .result) (c .before-n .ensures .value) (c .in-Err .fault) (omega (arith, c .before-n .ensures .within)) (c .in-Err .ensures tt))
 
 pub loop-rest-again : need.loop-rest-again
-loop-rest-again g c =
-    (sym (went-on (g .K·Kind .reads) (c .loop-rest .line) (content (c .loop-rest .sheet)) (c .loop-rest .rest .now) (c .before-n .result) (c .before-n .ensures .value) (content (c .take-line .last .self)) (omega (arith, c .before-n .ensures .within)) (c .in-rest .ensures tt)) ∙ c .loop-rest .inv .0,
-     rw (take-rest, length-drop) (omega (arith, c .loop-rest .inv .1)))
+loop-rest-again g c = (
+  sym (went-on (g .K·Kind .reads) (c .loop-rest .line) (content (c .loop-rest .sheet)) (c .loop-rest .rest .now) (c .before-n .result) (c .before-n .ensures .value) (content (c .take-line .last .self)) (omega (arith, c .before-n .ensures .within)) (c .in-rest .ensures tt)) ∙ c .loop-rest .inv .0,
+  rw (take-rest, length-drop) (omega (arith, c .loop-rest .inv .1)),
+)
 
 pub returns-in-Break-settle : need.returns-in-Break-settle
 returns-in-Break-settle g c =

@@ -14,5 +14,5 @@ returns g c =
     let fits : length (written (g .K·Kind .form) s) ≤ length (c .args .out .now) = omega (arith, c .put-all .ensures .end, c .if-put-all-out .left) in
     record {
       answer = answered (g .K·Kind .form) s (c .args .out .now) ok fits (c .put-all-2 .result) (c .put-all-2 .ensures .end);
-      text = overwritten (g .K·Kind .form) s (c .args .out .now) ok fits (c .put-all-2 .last .out) (c .put-all-2 .ensures .text)
+      text = overwritten (g .K·Kind .form) s (c .args .out .now) ok fits (c .put-all-2 .last .out) (c .put-all-2 .ensures .text);
     }

@@ -16,10 +16,11 @@ returns-then-not-is-closed c =
 pub loop-t-again : need.loop-t-again
 loop-t-again c =
     let cs = code (c .args .program .now) in
-    let h : c .loop-t .t < length cs = omega (arith, c .loop-t-test .taken, c .tasks-tasks .ensures .value) in
-    (ap (λ n. first-open (c .loop-t .line + 1 + n) (drop (c .loop-t .t + 1) cs)) (c .len .ensures .value)
-     ∙ (sym (open-next (c .loop-t .line) cs (c .loop-t .t) h (sym (c .if-not-is-closed .ensures tt))) ∙ c .loop-t .inv .0),
-     omega (arith, c .len .ensures .bound, c .loop-t .inv .1))
+    let h : c .loop-t .t < length cs = omega (arith, c .loop-t-test .taken, c .tasks-tasks .ensures .value) in (
+      ap (λ n. first-open (c .loop-t .line + 1 + n) (drop (c .loop-t .t + 1) cs)) (c .len .ensures .value)
+          ∙ (sym (open-next (c .loop-t .line) cs (c .loop-t .t) h (sym (c .if-not-is-closed .ensures tt))) ∙ c .loop-t .inv .0),
+      omega (arith, c .len .ensures .bound, c .loop-t .inv .1),
+    )
 
 pub returns : need.returns
 returns c =

@@ -20,10 +20,11 @@ pub loop-t-again : need.loop-t-again
 loop-t-again c =
     let cs = code (c .args .program .now) in
     let n = c .tasks-tasks .ensures .value in
-    let h : c .loop-t .t < length cs = omega (arith, c .loop-t-test .taken, n) in
-    (ap (λ m. first-stray (c .tasks-tasks .result) (c .loop-t .line + 1 + m) (drop (c .loop-t .t + 1) cs)) (c .len .ensures .value)
-     ∙ (sym (passed (c .tasks-tasks .result) (c .loop-t .line) cs (c .loop-t .t) h (ap (λ m. stray-in (length (getD cs (c .loop-t .t) [])) m (c .loop-t .line + 1) (getD cs (c .loop-t .t) [])) n ∙ sym (c .in-rest .ensures tt))) ∙ c .loop-t .inv .0),
-     omega (arith, c .len .ensures .bound, c .loop-t .inv .1))
+    let h : c .loop-t .t < length cs = omega (arith, c .loop-t-test .taken, n) in (
+      ap (λ m. first-stray (c .tasks-tasks .result) (c .loop-t .line + 1 + m) (drop (c .loop-t .t + 1) cs)) (c .len .ensures .value)
+          ∙ (sym (passed (c .tasks-tasks .result) (c .loop-t .line) cs (c .loop-t .t) h (ap (λ m. stray-in (length (getD cs (c .loop-t .t) [])) m (c .loop-t .line + 1) (getD cs (c .loop-t .t) [])) n ∙ sym (c .in-rest .ensures tt))) ∙ c .loop-t .inv .0),
+      omega (arith, c .len .ensures .bound, c .loop-t .inv .1),
+    )
 
 pub returns : need.returns
 returns c =

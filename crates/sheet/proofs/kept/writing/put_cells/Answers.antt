@@ -8,9 +8,10 @@ pub loop-i-holds : need.loop-i-holds
 loop-i-holds g c = (put-none (c .args .at) (c .args .out .now), omega arith)
 
 pub loop-i-again : need.loop-i-again
-loop-i-again g c =
-    (line-put (cell-text (g .K·Kind .form)) (c .args .at) (c .args .cells .now) (c .loop-i .i) (c .index-cells-i .result) (spelt (c .line .result)) (c .args .out .now) (c .loop-i .out) (c .put-end .last .out) (c .loop-i .end) (c .put-end .result) (c .loop-i-test .taken) (c .index-cells-i .is) (c .line .ensures) (c .loop-i .inv .0) (c .put-end .ensures .text) (c .put-end .ensures .end),
-     omega (arith, c .put-end .ensures .bound, c .loop-i .inv .1))
+loop-i-again g c = (
+  line-put (cell-text (g .K·Kind .form)) (c .args .at) (c .args .cells .now) (c .loop-i .i) (c .index-cells-i .result) (spelt (c .line .result)) (c .args .out .now) (c .loop-i .out) (c .put-end .last .out) (c .loop-i .end) (c .put-end .result) (c .loop-i-test .taken) (c .index-cells-i .is) (c .line .ensures) (c .loop-i .inv .0) (c .put-end .ensures .text) (c .put-end .ensures .end),
+  omega (arith, c .put-end .ensures .bound, c .loop-i .inv .1),
+)
 
 pub returns : need.returns
 returns g c =

@@ -16,9 +16,10 @@ loop-p-holds c = (put-none (c .args .at) (c .args .out .now), omega arith)
 pub loop-p-again : need.loop-p-again
 loop-p-again c =
     let ops = getD (code (c .args .program .now)) (c .args .t) [] in
-    let h : c .loop-p .p < length ops = omega (arith, c .loop-p-test .taken, c .len-len .ensures .value) in
-    (line-put op-text (c .args .at) ops (c .loop-p .p) (c .op .result) (spelt (c .op-line-of .result)) (c .args .out .now) (c .loop-p .out) (c .put-end .last .out) (c .loop-p .end) (c .put-end .result) h (c .op .ensures ∙ getD-default ops (c .loop-p .p) _ (c .op .result) h) (c .op-line-of .ensures) (c .loop-p .inv .0) (c .put-end .ensures .text) (c .put-end .ensures .end),
-     omega (arith, c .put-end .ensures .bound, c .loop-p .inv .1))
+    let h : c .loop-p .p < length ops = omega (arith, c .loop-p-test .taken, c .len-len .ensures .value) in (
+      line-put op-text (c .args .at) ops (c .loop-p .p) (c .op .result) (spelt (c .op-line-of .result)) (c .args .out .now) (c .loop-p .out) (c .put-end .last .out) (c .loop-p .end) (c .put-end .result) h (c .op .ensures ∙ getD-default ops (c .loop-p .p) _ (c .op .result) h) (c .op-line-of .ensures) (c .loop-p .inv .0) (c .put-end .ensures .text) (c .put-end .ensures .end),
+      omega (arith, c .put-end .ensures .bound, c .loop-p .inv .1),
+    )
 
 pub returns : need.returns
 returns c =

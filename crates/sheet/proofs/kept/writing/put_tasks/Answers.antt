@@ -17,9 +17,10 @@ loop-t-again c =
     let cs = code (c .args .program .now) in
     let n = c .tasks-tasks .ensures .value in
     let h : c .loop-t .t < length cs = omega (arith, c .loop-t-test .taken) in
-    let l = length-take-le (length cs) (c .args .owed .now) (omega (arith, c .tasks-tasks .ensures .bound, c .told-owed)) in
-    (task-put (c .args .at) (take (length cs) (c .args .owed .now)) cs (c .loop-t .t) (spelt (c .task-line .result)) (c .args .out .now) (c .loop-t .out) (c .put-end .last .out) (c .put-ops-end .last .out) (c .loop-t .end) (c .put-end .result) (c .put-ops-end .result) (omega arith) h (c .task-line .ensures ∙ ap task-text (sym (getD-take (length cs) (c .args .owed .now) (c .loop-t .t) 0 h))) (c .loop-t .inv .0) (c .put-end .ensures .text) (c .put-end .ensures .end) (c .put-ops-end .ensures .text) (c .put-ops-end .ensures .end),
-     omega (arith, c .put-end .ensures .bound, c .put-ops-end .ensures .bound, c .loop-t .inv .1))
+    let l = length-take-le (length cs) (c .args .owed .now) (omega (arith, c .tasks-tasks .ensures .bound, c .told-owed)) in (
+      task-put (c .args .at) (take (length cs) (c .args .owed .now)) cs (c .loop-t .t) (spelt (c .task-line .result)) (c .args .out .now) (c .loop-t .out) (c .put-end .last .out) (c .put-ops-end .last .out) (c .loop-t .end) (c .put-end .result) (c .put-ops-end .result) (omega arith) h (c .task-line .ensures ∙ ap task-text (sym (getD-take (length cs) (c .args .owed .now) (c .loop-t .t) 0 h))) (c .loop-t .inv .0) (c .put-end .ensures .text) (c .put-end .ensures .end) (c .put-ops-end .ensures .text) (c .put-ops-end .ensures .end),
+      omega (arith, c .put-end .ensures .bound, c .put-ops-end .ensures .bound, c .loop-t .inv .1),
+    )
 
 pub returns : need.returns
 returns c =
