@@ -3,13 +3,12 @@ ghost use mathlib.Core.Bool.{cond};
 ghost use Prim.Native.Nat.{_<_};
 ghost use lib.Dec.{ltb};
 ghost use lib.ListN.{length};
-ghost use Rattle.std.specs.Results.{Cases};
 ghost use Rattle.std.specs.declared.option.Option.the-variants.{Some};
 ghost use Rattle.std.specs.declared.result.Result.the-variants.{Ok, Err};
 ghost use Rattle.text.specs.Number.{numeral};
 ghost use Rattle.text.specs.Tokens.{tokens};
 ghost use Rattle.sheet.specs.Lines.{cell-on, cell-in, const-on, const-in, task-on, op-on, op-in, op-line as written-op, judged};
-ghost use Rattle.sheet.specs.Sheets.{content};
+ghost use Rattle.sheet.specs.Sheets.{Answers, content};
 use super::Sheet;
 use crate::operations::op_line;
 use crate::parts::Cell;
@@ -35,7 +34,7 @@ fn value_in<K: Kind>(place: &[u8]) -> Result<K, Fault>
 
 impl<K: Kind> Sheet<K> {
     fn add_cell(&mut self, mode: Mode, value: K) -> Result<(), LineFault>
-        ensures { λ r. ⌜ Cases r (λ _. cell-on (content (now (self .entry))) mode (Ok value) ≡ Ok (content (now (self .exit)))) (λ f. cell-on (content (now (self .entry))) mode (Ok value) ≡ Err f) ⌝ }
+        ensures { λ r. ⌜ Answers r (cell-on (content (now (self .entry))) mode (Ok value)) (content (now (self .exit))) ⌝ }
     {
         let n = self.cell_count;
         if n >= 64 {
@@ -47,7 +46,7 @@ impl<K: Kind> Sheet<K> {
     }
 
     fn add_const(&mut self, value: K) -> Result<(), LineFault>
-        ensures { λ r. ⌜ Cases r (λ _. const-on (content (now (self .entry))) (Ok value) ≡ Ok (content (now (self .exit)))) (λ f. const-on (content (now (self .entry))) (Ok value) ≡ Err f) ⌝ }
+        ensures { λ r. ⌜ Answers r (const-on (content (now (self .entry))) (Ok value)) (content (now (self .exit))) ⌝ }
     {
         let n = self.const_count;
         if n >= 64 {
@@ -59,7 +58,7 @@ impl<K: Kind> Sheet<K> {
     }
 
     fn add_task(&mut self, owed: u64) -> Result<(), LineFault>
-        ensures { λ r. ⌜ Cases r (λ _. task-on (content (now (self .entry))) (Some owed) ≡ Ok (content (now (self .exit)))) (λ f. task-on (content (now (self .entry))) (Some owed) ≡ Err f) ⌝ }
+        ensures { λ r. ⌜ Answers r (task-on (content (now (self .entry))) (Some owed)) (content (now (self .exit))) ⌝ }
     {
         if owed > 255 {
             return Err(LineFault::PastBound);
@@ -74,7 +73,7 @@ impl<K: Kind> Sheet<K> {
 
     fn add_op(&mut self, op: Op) -> Result<(), LineFault>
         requires { ⌜ 0 < length (content (now self) .code) ⌝ }
-        ensures { λ r. ⌜ Cases r (λ _. op-on (content (now (self .entry))) (Ok op) ≡ Ok (content (now (self .exit)))) (λ f. op-on (content (now (self .entry))) (Ok op) ≡ Err f) ⌝ }
+        ensures { λ r. ⌜ Answers r (op-on (content (now (self .entry))) (Ok op)) (content (now (self .exit))) ⌝ }
     {
         if !self.program.add_op(op) {
             return Err(LineFault::TooMany);
@@ -85,7 +84,7 @@ impl<K: Kind> Sheet<K> {
 
 impl<K: Kind> Sheet<K> {
     fn take_cell(&mut self, mode: Mode, place: &[u8]) -> Result<(), LineFault>
-        ensures { λ r. ⌜ Cases r (λ _. cell-in (K·Kind .reads) (content (now (self .entry))) mode (now (place .entry)) ≡ Ok (content (now (self .exit)))) (λ f. cell-in (K·Kind .reads) (content (now (self .entry))) mode (now (place .entry)) ≡ Err f) ⌝ }
+        ensures { λ r. ⌜ Answers r (cell-in (K·Kind .reads) (content (now (self .entry))) mode (now (place .entry))) (content (now (self .exit))) ⌝ }
     {
         if self.const_count != 0 || self.program.tasks() != 0 {
             return Err(LineFault::BadForm);
@@ -95,7 +94,7 @@ impl<K: Kind> Sheet<K> {
     }
 
     fn take_const(&mut self, place: &[u8]) -> Result<(), LineFault>
-        ensures { λ r. ⌜ Cases r (λ _. const-in (K·Kind .reads) (content (now (self .entry))) (now (place .entry)) ≡ Ok (content (now (self .exit)))) (λ f. const-in (K·Kind .reads) (content (now (self .entry))) (now (place .entry)) ≡ Err f) ⌝ }
+        ensures { λ r. ⌜ Answers r (const-in (K·Kind .reads) (content (now (self .entry))) (now (place .entry))) (content (now (self .exit))) ⌝ }
     {
         if self.program.tasks() != 0 {
             return Err(LineFault::BadForm);
@@ -105,7 +104,7 @@ impl<K: Kind> Sheet<K> {
     }
 
     fn take_task(&mut self, part: &[u8]) -> Result<(), LineFault>
-        ensures { λ r. ⌜ Cases r (λ _. task-on (content (now (self .entry))) (numeral (now (part .entry))) ≡ Ok (content (now (self .exit)))) (λ f. task-on (content (now (self .entry))) (numeral (now (part .entry))) ≡ Err f) ⌝ }
+        ensures { λ r. ⌜ Answers r (task-on (content (now (self .entry))) (numeral (now (part .entry)))) (content (now (self .exit))) ⌝ }
     {
         let Some(owed) = number(part) else {
             return Err(LineFault::BadForm);
@@ -121,7 +120,7 @@ impl<K: Kind> Sheet<K> {
     }
 
     fn take_op(&mut self, line: &[u8]) -> Result<(), LineFault>
-        ensures { λ r. ⌜ Cases r (λ _. op-in (content (now (self .entry))) (now (line .entry)) ≡ Ok (content (now (self .exit)))) (λ f. op-in (content (now (self .entry))) (now (line .entry)) ≡ Err f) ⌝ }
+        ensures { λ r. ⌜ Answers r (op-in (content (now (self .entry))) (now (line .entry))) (content (now (self .exit))) ⌝ }
     {
         if self.program.tasks() == 0 {
             return Err(LineFault::BadForm);
@@ -134,7 +133,7 @@ impl<K: Kind> Sheet<K> {
 impl<K: Kind> Sheet<K> {
     // Adds what the line says.
     pub(super) fn take_line(&mut self, line: &[u8]) -> Result<(), LineFault>
-        ensures { λ r. ⌜ Cases r (λ _. judged (K·Kind .reads) (content (now (self .entry))) (now (line .entry)) ≡ Ok (content (now (self .exit)))) (λ f. judged (K·Kind .reads) (content (now (self .entry))) (now (line .entry)) ≡ Err f) ⌝ }
+        ensures { λ r. ⌜ Answers r (judged (K·Kind .reads) (content (now (self .entry))) (now (line .entry))) (content (now (self .exit))) ⌝ }
     {
         if let Some(place) = framed(line, b"(cell p ") {
             return self.take_cell(Mode::Protected, place);

@@ -4,7 +4,7 @@ ghost use Rattle.std.specs.Results.{Cases};
 ghost use Rattle.std.specs.declared.result.Result.the-variants.{Ok, Err};
 ghost use Rattle.sheet.specs.Content.{nothing};
 ghost use Rattle.sheet.specs.Reading.{settled, read-text};
-ghost use Rattle.sheet.specs.Sheets.{content};
+ghost use Rattle.sheet.specs.Sheets.{Answers, content};
 use super::Sheet;
 use super::ends::open_task;
 use super::ends::stray_target;
@@ -38,7 +38,7 @@ impl<K: Kind> Sheet<K> {
 
     // What is looked at after the last line.
     fn settle(&self) -> Result<(), Refusal>
-        ensures { λ r. ⌜ Cases r (λ _. settled (content (now (self .entry))) ≡ Ok (content (now (self .entry)))) (λ e. settled (content (now (self .entry))) ≡ Err e) ⌝ }
+        ensures { λ r. ⌜ Answers r (settled (content (now (self .entry)))) (content (now (self .entry))) ⌝ }
     {
         let first = self.cell_count + self.const_count + 1;
         if let Some(line) = open_task(&self.program, first) {
