@@ -22,3 +22,4 @@ mod ReadThere
 mod Lengths
 mod OwnLines
 mod WrittenBack
+mod RoundTrips

@@ -48,12 +48,19 @@ pub record Sound {V : Type 0} (s : Content V) : Type 0 where
   pub tasks-closed : first-open (first-task s) (s .code) ≡ None
   pub jumps-land : first-stray (length (s .code)) (first-task s) (s .code) ≡ None
 
-module _ {V : Type 0} (form : V → Option (List ℕ)) (reads : List Tok → Result V Fault) where
-  -- what is read is sound, may be written, and writes back to the same bytes
-  abbrev pub Read-writes-back : Type 0
-  Read-writes-back =
-      (bs : List ℕ) (s : Content V) → read-text reads bs ≡ Ok s → Sound s × (lawful form s ≡ true) × (written form s ≡ bs)
+-- the content is sound, may be written, and is written as the bytes
+abbrev pub Writes-back : {V : Type 0} → (V → Option (List ℕ)) → List ℕ → Content V → Type 0
+Writes-back form bs s = Sound s × (lawful form s ≡ true) × (written form s ≡ bs)
 
-  -- what is written of a sound sheet is read as the same sheet
+-- the bytes are read as the content, if it is sound
+abbrev pub Reads-back : {V : Type 0} → (List Tok → Result V Fault) → Content V → List ℕ → Type 0
+Reads-back reads s bs = Sound s → read-text reads bs ≡ Ok s
+
+module _ {V : Type 0} (form : V → Option (List ℕ)) (reads : List Tok → Result V Fault) where
+  -- what is read writes back to the same bytes
+  abbrev pub Read-writes-back : Type 0
+  Read-writes-back = (bs : List ℕ) (s : Content V) → read-text reads bs ≡ Ok s → Writes-back form bs s
+
+  -- what is written is read as the same sheet
   abbrev pub Written-reads-back : Type 0
   Written-reads-back = (s : Content V) → Sound s → lawful form s ≡ true → read-text reads (written form s) ≡ Ok s

@@ -1,8 +1,10 @@
 ghost use mathlib.Core.Path.{_≡_};
 ghost use Prim.Native.Nat.{_≤_};
 ghost use Rattle.std.specs.Results.{Cases};
+ghost use Rattle.std.specs.Vec.{made};
 ghost use Rattle.std.specs.declared.result.Result.the-variants.{Ok, Err};
 ghost use Rattle.sheet.specs.Content.{nothing};
+ghost use Rattle.sheet.specs.Laws.{Writes-back};
 ghost use Rattle.sheet.specs.Reading.{settled, read-text};
 ghost use Rattle.sheet.specs.Sheets.{Answers, content};
 use super::Sheet;
@@ -50,8 +52,8 @@ impl<K: Kind> Sheet<K> {
         Ok(())
     }
 
-    // The sheet that the bytes write, or what is wrong with them and where.
-    pub fn read(text: &[u8]) -> Result<Sheet<K>, Refusal>
+    // Takes line after line, and looks at the whole after the last.
+    fn take_text(text: &[u8]) -> Result<Sheet<K>, Refusal>
         ensures { λ r. ⌜ Cases r (λ s. read-text (K·Kind .reads) (now (text .entry)) ≡ Ok (content s)) (λ e. read-text (K·Kind .reads) (now (text .entry)) ≡ Err e) ⌝ }
     {
         if text.len() > 65536 {
@@ -76,5 +78,13 @@ impl<K: Kind> Sheet<K> {
         }
         sheet.settle()?;
         Ok(sheet)
+    }
+
+    // The sheet that the bytes write, or what is wrong with them and where. What is read writes back to the same bytes.
+    pub fn read(text: &[u8]) -> Result<Sheet<K>, Refusal>
+        ensures value { λ r. ⌜ Cases r (λ s. read-text (K·Kind .reads) (now (text .entry)) ≡ Ok (content s)) (λ e. read-text (K·Kind .reads) (now (text .entry)) ≡ Err e) ⌝ }
+        ensures back { λ r. ⌜ made r (λ s. Writes-back (K·Kind .form) (now (text .entry)) (content s)) ⌝ }
+    {
+        Sheet::take_text(text)
     }
 }

@@ -4,7 +4,9 @@ ghost use Prim.Native.Nat.{_+_, _*_, _≤_};
 ghost use lib.ListN.{length, getD, take};
 ghost use Rattle.std.specs.Joined.{joined};
 ghost use Rattle.std.specs.Options.{isSome};
+ghost use Rattle.std.specs.Vec.{made};
 ghost use Rattle.program.specs.Program.{code};
+ghost use Rattle.sheet.specs.Laws.{Reads-back};
 ghost use Rattle.sheet.specs.Output.{over};
 ghost use Rattle.sheet.specs.Sheets.{content};
 ghost use Rattle.sheet.specs.Writing.{cell-text, const-text, op-text, tasks-text, every, lawful, written, write-answer, write-out};
@@ -137,8 +139,8 @@ impl<K: Kind> Sheet<K> {
         put_tasks(out, consts, &self.owed, &self.program)
     }
 
-    // Writes the sheet, and gives its length; later output stays, and a refusal leaves all of it.
-    pub fn write(&self, out: &mut [u8]) -> Result<usize, Refusal>
+    // Looks at all values and at the length first, so that a refusal leaves no trace.
+    fn put_sheet(&self, out: &mut [u8]) -> Result<usize, Refusal>
         ensures answer { λ r. ⌜ r ≡ write-answer (K·Kind .form) (content (now (self .entry))) (now (out .entry)) ⌝ }
         ensures text { λ _. ⌜ now (out .exit) ≡ write-out (K·Kind .form) (content (now (self .entry))) (now (out .entry)) ⌝ }
     {
@@ -150,5 +152,14 @@ impl<K: Kind> Sheet<K> {
             return Err(Refusal::OutputShort);
         }
         Ok(self.put_all(out))
+    }
+
+    // Writes the sheet, and gives its length; later output stays, and a refusal leaves all of it. What is written reads back.
+    pub fn write(&self, out: &mut [u8]) -> Result<usize, Refusal>
+        ensures answer { λ r. ⌜ r ≡ write-answer (K·Kind .form) (content (now (self .entry))) (now (out .entry)) ⌝ }
+        ensures text { λ _. ⌜ now (out .exit) ≡ write-out (K·Kind .form) (content (now (self .entry))) (now (out .entry)) ⌝ }
+        ensures back { λ r. ⌜ made r (λ n. Reads-back (K·Kind .reads) (content (now (self .entry))) (take n (now (out .exit)))) ⌝ }
+    {
+        self.put_sheet(out)
     }
 }

@@ -1,18 +1,18 @@
-use mathlib.Core.Path.{sym}
-use Prim.Native.Nat.{_≤_}
-use native.Mathlib.Omega.{arith}
-use lib.ListN.{length}
 use Rattle.sheet.specs.Sheets.{content}
-use Rattle.sheet.specs.Writing.{written}
-use Rattle.sheet.proofs.Overwritten.{answered, overwritten}
+use Rattle.sheet.proofs.Places.{LawfulKind}
+use Rattle.sheet.proofs.RoundTrips.{write-back}
 use Rattle.sheet.proofs.kept.Sheet.write.Needs as need
 
 pub returns : need.returns
 returns g c =
-    let s = content (c .args .self .now) in
-    let ok = sym (c .if-not-is-lawful .ensures tt) in
-    let fits : length (written (g .K·Kind .form) s) ≤ length (c .args .out .now) = omega (arith, c .put-all .ensures .end, c .if-put-all-out .left) in
+    let law : LawfulKind (g .K·Kind .form) (g .K·Kind .reads) = record {
+      short = g .K·Kind·met .short;
+      bracketed = g .K·Kind·met .bracketed;
+      back = g .K·Kind·met .back;
+      there = g .K·Kind·met .there;
+    } in
     record {
-      answer = answered (g .K·Kind .form) s (c .args .out .now) ok fits (c .put-all-2 .result) (c .put-all-2 .ensures .end);
-      text = overwritten (g .K·Kind .form) s (c .args .out .now) ok fits (c .put-all-2 .last .out) (c .put-all-2 .ensures .text);
+      answer = c .put-sheet .ensures .answer;
+      text = c .put-sheet .ensures .text;
+      back = write-back (g .K·Kind .form) (g .K·Kind .reads) law (content (c .args .self .now)) (c .args .out .now) (c .put-sheet .last .out) (c .put-sheet .result) (c .put-sheet .ensures .answer) (c .put-sheet .ensures .text);
     }

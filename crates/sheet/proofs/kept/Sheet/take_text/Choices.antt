@@ -5,7 +5,7 @@ use Rattle.text.specs.Cut.{cut}
 use Rattle.sheet.specs.Content.{nothing}
 use Rattle.sheet.specs.Reading.{read-lines}
 use Rattle.sheet.specs.Sheets.{content}
-use Rattle.sheet.proofs.kept.Sheet.read.Given as given
+use Rattle.sheet.proofs.kept.Sheet.take_text.Given as given
 
 abbrev pub Inv-loop-rest : given.InvT-loop-rest
 Inv-loop-rest g l =
