@@ -9,6 +9,11 @@ ghost use Rattle.text.specs.Cut.{cut};
 ghost use Rattle.session.specs.Input.{calls-from};
 use text::before;
 
+mod calls;
+
+pub use calls::Call;
+pub use calls::call_of;
+
 // Where the line `(calls)` begins, and its number.
 #[derive(Clone, Copy)]
 pub struct CallsLine {

@@ -6,6 +6,7 @@ use program::Program;
 
 mod ends;
 mod lines;
+mod parts;
 mod reading;
 mod writing;
 

@@ -1,0 +1,4 @@
+mod Turns
+mod Delivery
+mod Layings
+mod Sizes

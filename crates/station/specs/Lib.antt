@@ -1,0 +1,10 @@
+pub mod Layout
+pub mod Faults
+pub mod Boards
+pub mod Loops
+pub mod World
+pub mod Lookup
+pub mod Operations
+pub mod Calls
+pub mod Laying
+pub mod Sheets
