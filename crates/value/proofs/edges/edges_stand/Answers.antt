@@ -5,4 +5,4 @@ use Rattle.value.proofs.edges.edges_stand.Needs as need
 
 pub returns : need.returns
 unfolding ofBits toBits add sub le lt eq wrapped
-returns c = (refl, refl, refl)
+returns c = refl
