@@ -102,4 +102,4 @@ module _ {V : Type 0} (k : Meaning V) (w : World V) (t : ℕ) where
   -- a call: first the slice is looked at, then whether there is such a task, then its state
   abbrev pub called : (ℕ → ℕ) → Event → Called V
   called left e =
-      cond (ltb (length (w .slice)) 320) (refuses w ShortSlice) (cond (ltb t (length (w .code))) (meets left (state-at (w .board) t) e) (refuses w (NoSuchTask t)))
+      cond (ltb (length (w .slice)) 320) (refuses w (ShortSlice t)) (cond (ltb t (length (w .code))) (meets left (state-at (w .board) t) e) (refuses w (NoSuchTask t)))

@@ -65,7 +65,7 @@ task-told n t p NotAtEnd = notice n 3 t p 0
 task-told n t p Stale = notice n 3 t p 0
 
 abbrev pub told : Refusal → Notice
-told ShortSlice = notice 1 2 0 0 0
+told (ShortSlice t) = notice 1 2 t 0 0
 told (NoSuchTask t) = notice 10 2 t 0 0
 told (WrongState t) = notice 11 2 t 0 0
 told (NoneOwed t) = notice 12 2 t 0 0

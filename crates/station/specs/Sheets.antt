@@ -68,7 +68,7 @@ module _ {V : Type 0} (nought : V) where
 
   -- a sheet is read into a station in any state, and replaces it whole
   abbrev pub reads-sheet : (List Tok → Result V Fault) → List ℕ → World V → After (Result ℕ Refusal) V
-  reads-sheet reads bs w = cond (ltb (length (w .slice)) 320) (refuses w ShortSlice) (sets-up-if w (read-text reads bs))
+  reads-sheet reads bs w = cond (ltb (length (w .slice)) 320) (refuses w (ShortSlice 0)) (sets-up-if w (read-text reads bs))
 
   -- cell c with its mode, and constant n
   abbrev pub cell-in : Board → List V → ℕ → Cell V
@@ -99,7 +99,7 @@ at-work b = any (λ t. not (is-idle (state-at b t))) 16
 module _ {V : Type 0} (nought : V) (form : V → Option (List ℕ)) (w : World V) where
   abbrev pub writes-answer : List ℕ → Result ℕ Refusal
   writes-answer out =
-      cond (ltb (length (w .slice)) 320) (Err ShortSlice) (cond (at-work (w .board)) (Err NotIdle) (faulted of-sheet (write-answer form (sheet-of nought w) out)))
+      cond (ltb (length (w .slice)) 320) (Err (ShortSlice 0)) (cond (at-work (w .board)) (Err NotIdle) (faulted of-sheet (write-answer form (sheet-of nought w) out)))
 
   -- later output stays, and a refusal leaves all of it
   abbrev pub writes-out : List ℕ → List ℕ

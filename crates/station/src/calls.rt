@@ -167,7 +167,7 @@ impl<B: Book> Station<B> {
         ensures table { λ _. ⌜ Same-table (now (self .entry)) (now (self .exit)) ⌝ }
     {
         if slice.len() < PLACES {
-            return Err(Refusal::ShortSlice);
+            return Err(Refusal::ShortSlice { task: t });
         }
         if t >= self.program.tasks() {
             return Err(Refusal::NoSuchTask { task: t });

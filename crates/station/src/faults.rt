@@ -38,7 +38,7 @@ pub struct TaskFault {
 // Why a station refuses a call. A refused call changes nothing.
 #[derive(Clone, Copy)]
 pub enum Refusal {
-    ShortSlice,
+    ShortSlice { task: usize },
     NoSuchTask { task: usize },
     WrongState { task: usize },
     NoneOwed { task: usize },
@@ -154,7 +154,7 @@ impl Refusal {
         ensures { λ r. ⌜ r ≡ notice-of self ⌝ }
     {
         match self {
-            Refusal::ShortSlice => on_station(1, 0),
+            Refusal::ShortSlice { task } => on_station(1, task),
             Refusal::NoSuchTask { task } => on_station(10, task),
             Refusal::WrongState { task } => on_station(11, task),
             Refusal::NoneOwed { task } => on_station(12, task),

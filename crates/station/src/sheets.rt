@@ -130,7 +130,7 @@ impl<B: Book> Station<B> {
         ensures counts { λ _. ⌜ (now (self .exit) .cells ≡ reads-sheet (K·Kind .nought) (K·Kind .reads) (now (text .entry)) (world-of (B·Book .seen) (now (self .entry)) (now (slice .entry))) .world .cells) × (now (self .exit) .consts ≡ reads-sheet (K·Kind .nought) (K·Kind .reads) (now (text .entry)) (world-of (B·Book .seen) (now (self .entry)) (now (slice .entry))) .world .consts) ⌝ }
     {
         if slice.len() < PLACES {
-            return Err(Refusal::ShortSlice);
+            return Err(Refusal::ShortSlice { task: 0 });
         }
         let sheet = Sheet::<K>::read(text)?;
         self.set_up(slice, &sheet);
@@ -167,7 +167,7 @@ impl<B: Book> Station<B> {
         ensures text { λ _. ⌜ now (out .exit) ≡ writes-out (K·Kind .nought) (K·Kind .form) (world-of (B·Book .seen) (now (self .entry)) (now (slice .entry))) (now (out .entry)) ⌝ }
     {
         if slice.len() < PLACES {
-            return Err(Refusal::ShortSlice);
+            return Err(Refusal::ShortSlice { task: 0 });
         }
         if self.board.is_at_work() {
             return Err(Refusal::NotIdle);
