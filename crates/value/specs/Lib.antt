@@ -6,4 +6,3 @@ pub mod Hex
 pub mod Bearings
 pub mod Wholes
 pub mod Readings
-pub mod Edges

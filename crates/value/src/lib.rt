@@ -1,7 +1,6 @@
 // Kinds of value: whole numbers and readings, their operations and the forms that sheets have for them.
 mod bearings;
 mod codes;
-mod edges;
 mod forms;
 mod hex;
 mod integers;
@@ -12,7 +11,6 @@ mod wholes;
 pub use codes::Cause;
 pub use codes::Fault;
 pub use codes::Operation;
-pub use edges::edges_stand;
 pub use kinds::Kind;
 pub use readings::Reading;
 pub use readings::ReadingKind;
