@@ -1,5 +1,7 @@
 // The bench: reads a sheet of whole numbers and calls from standard input, runs them over a station with marks, and
 // prints an answer for each call and then the cells.
+#![tactic(auto)]
+
 use book::marks::Marks;
 use session::{Call, CallsLine, call_of, calls_line};
 use sheet::Notice;

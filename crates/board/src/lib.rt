@@ -1,4 +1,6 @@
 // A station's tasks and cells as plain data, and what a call does for all of them.
+#![tactic(auto)]
+
 ghost use Rattle.std.specs.Prelude.{◌≡◌, false, not, replicate, if◌then◌else◌};
 ghost use Rattle.board.specs.Boards.{row_at, idle_row, with_owners, with_rows};
 ghost use Rattle.board.specs.Laying.{laid, tabulated};

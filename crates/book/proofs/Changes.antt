@@ -1,7 +1,7 @@
 -- What each call leaves, place by place, is what its definition says. Assumes nothing.
 use Rattle.std.proofs.Common.{◌≡◌, ℕ, ◌<◌, Bool, true, false, cond, ◌&&◌, ◌||◌, eqb, sym, refl, ap, ◌∙◌, subst}
 use mathlib.Core.Path.{fun_ext}
-use Rattle.std.proofs.lemmas.Bool.{lt-ltb, cond-true, and_from, eqb_true}
+use Rattle.std.proofs.lemmas.Bool.{lt-ltb, cond-true, and_from, eqb-true}
 use Rattle.book.specs.Seen.{Seen, upd, a_task, a_cell, begun, noting, meets, finished, Spending, less, same, Lines, spending}
 
 pub same_seen : (m k : Seen) → ((u c : ℕ) → m.noted u c ≡ k.noted u c) → ((u : ℕ) → m.stale u ≡ k.stale u) → m ≡ k
@@ -19,7 +19,7 @@ pub is_begun : (t : ℕ) (m k : Seen) → t < 16 → ((u c : ℕ) → k.noted u 
 is_begun t m k h n s = same_seen _ _ (λ u c. n u c ∙ apply (eqb u t) (λ _. false) (m.noted u) c) s ∙ sym (at_task t _ _ h)
 
 nest : (f : ℕ → ℕ → Bool) (t c u d : ℕ) (b : Bool) → eqb u t ≡ b → cond (b && eqb d c) true (f u d) ≡ cond b (upd (f t) c true) (f u) d
-nest f t c u d true e = ap (λ (v : ℕ). cond (eqb d c) true (f v d)) (eqb_true u t e)
+nest f t c u d true e = ap (λ (v : ℕ). cond (eqb d c) true (f v d)) (eqb-true u t e)
 nest f t c u d false e = refl
 
 pub is_noting : (t c : ℕ) (held : Bool) (m k : Seen) → t < 16 → c < 64 → ((u d : ℕ) → k.noted u d ≡ cond (eqb u t && eqb d c) true (m.noted u d)) → ((u : ℕ) → k.stale u ≡ cond (eqb u t) (m.stale t || held) (m.stale u)) → k ≡ noting t c held m

@@ -2,7 +2,7 @@
 use Rattle.std.proofs.Common.{◌≡◌, ℕ, ◌+◌, ◌-◌, ◌<◌, ◌≤◌, Bool, true, false, cond, not, ◌&&◌, ◌||◌, eqb, ltb, leb, List, [], length, get_or, set, replicate, is_some, Some, None, Option, sym, refl, ap, ◌∙◌, ⊎_elim, arith}
 use mathlib.Core.Path.{fun_ext}
 use Rattle.std.proofs.lemmas.List.{get_or_past}
-use Rattle.std.proofs.lemmas.Bool.{cases_lt, lt-ltb, le-ltb, eq-eqb, eqb_true, not_from_true, or_from, and_right}
+use Rattle.std.proofs.lemmas.Bool.{cases_lt, lt-ltb, le-ltb, eq-eqb, eqb-true, not_from_true, or_from, and_right}
 use Rattle.std.proofs.lemmas.Bool.Decides.{nat_tests}
 use Rattle.book.specs.Seen.{any, meets}
 use Rattle.book.specs.Counted.{moved, outdated, worn, risen}
@@ -91,10 +91,10 @@ module _ (first : List (List (Option ℕ))) (commits : List ℕ) (row : List (Op
   placed u d = at_place None first row t (λ q. eqb q c && not (is_some (get_or (get_or first t []) c None))) (Some (get_or commits c 0)) u d h kept
 
   same_entry : (u d : ℕ) → eqb u t ≡ true → eqb d c ≡ true → get_or (get_or first t []) c None ≡ get_or (get_or first u []) d None
-  same_entry u d p q = sym (ap (λ (v : ℕ). get_or (get_or first v []) d None) (eqb_true u t p) ∙ ap (λ (e : ℕ). get_or (get_or first t []) e None) (eqb_true d c q))
+  same_entry u d p q = sym (ap (λ (v : ℕ). get_or (get_or first v []) d None) (eqb-true u t p) ∙ ap (λ (e : ℕ). get_or (get_or first t []) e None) (eqb-true d c q))
 
   same_count : (d : ℕ) → eqb d c ≡ true → get_or commits c 0 ≡ get_or commits d 0
-  same_count d q = sym (ap (λ (e : ℕ). get_or commits e 0) (eqb_true d c q))
+  same_count d q = sym (ap (λ (e : ℕ). get_or commits e 0) (eqb-true d c q))
 
   pub noting-noted : (u d : ℕ) → is_some (get_or (get_or (set first t row) u []) d None) ≡ cond (eqb u t && eqb d c) true (is_some (get_or (get_or first u []) d None))
   noting-noted u d = ap (is_some {T = ℕ}) (placed u d) ∙ noted_at (eqb u t) (eqb d c) (get_or commits c 0) _ _ (same_entry u d)
@@ -120,7 +120,7 @@ module _ (first : List (List (Option ℕ))) (commits : List ℕ) (row : List (Op
       swap false false false = refl
 
       go : (b : Bool) → eqb u t ≡ b → (cond b (get_or flag t false || held) (get_or flag u false) || outdated (get_or first u []) commits) ≡ cond b ((get_or flag t false || outdated (get_or first t []) commits) || held) (get_or flag u false || outdated (get_or first u []) commits)
-      go true e = ap (λ (v : ℕ). (get_or flag t false || held) || outdated (get_or first v []) commits) (eqb_true u t e) ∙ swap (get_or flag t false) held (outdated (get_or first t []) commits)
+      go true e = ap (λ (v : ℕ). (get_or flag t false || held) || outdated (get_or first v []) commits) (eqb-true u t e) ∙ swap (get_or flag t false) held (outdated (get_or first t []) commits)
       go false e = refl
 
   pub noting_first : ((u d n : ℕ) → get_or (get_or first u []) d None ≡ Some n → n ≤ get_or commits d 0) → (u d n : ℕ) → get_or (get_or (set first t row) u []) d None ≡ Some n → n ≤ get_or commits d 0

@@ -1,7 +1,7 @@
 -- Lists, and lists of lists, with one element changed, read at every place. Assumes nothing.
 use Rattle.std.proofs.Common.{◌≡◌, ℕ, zero, suc, ◌<◌, Bool, true, false, cond, ◌&&◌, eqb, List, [], length, get_or, set, replicate, sym, refl, ap, ◌∙◌, ⊎_elim}
 use Rattle.std.proofs.lemmas.List.{get_or-set_same, get_or-set_other}
-use Rattle.std.proofs.lemmas.Bool.{cases_eq, eq-eqb, ne_eqb, eqb_true}
+use Rattle.std.proofs.lemmas.Bool.{cases_eq, eq-eqb, ne_eqb, eqb-true}
 
 pub get_or-set : {X : Type 0} (l : List X) (i : ℕ) (a : X) (j : ℕ) (d : X) → i < length l → get_or (set l i a) j d ≡ cond (eqb j i) a (get_or l j d)
 get_or-set l i a j d h =
@@ -36,4 +36,4 @@ module _ {X : Type 0} (x : X) where
   at_place rows row i test v j k h changed =
       at_row rows i row j k h
       ∙ ap (λ (y : X). cond (eqb j i) y (get_or (get_or rows j []) k x)) (changed k)
-      ∙ nest (eqb j i) (test k) v (get_or (get_or rows i []) k x) (get_or (get_or rows j []) k x) (λ e. ap (λ (r : ℕ). get_or (get_or rows r []) k x) (sym (eqb_true j i e)))
+      ∙ nest (eqb j i) (test k) v (get_or (get_or rows i []) k x) (get_or (get_or rows j []) k x) (λ e. ap (λ (r : ℕ). get_or (get_or rows r []) k x) (sym (eqb-true j i e)))

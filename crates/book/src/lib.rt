@@ -1,4 +1,6 @@
 // The book of a station: who has read what, and who may still commit.
+#![tactic(auto)]
+
 ghost use Rattle.std.specs.Prelude.{◌≡◌, ℕ, false, slice_index_or};
 ghost use Rattle.book.specs.Seen.{Seen, begun, noting, finished, rested, stale_of, left_at, Lines, spending, full};
 

@@ -1,4 +1,6 @@
 // The engine on plain data: transactions side by side over shared cells, each undone by itself, and drivers on their own cells.
+#![tactic(auto)]
+
 use board::Board;
 use program::Program;
 

@@ -1,4 +1,6 @@
 // Why a task or a station refuses: a cause rises from the value through the task to the station, and nothing is lost on the way.
+#![tactic(auto)]
+
 ghost use Rattle.std.specs.Prelude.{◌≡◌};
 ghost use Rattle.sheet.specs.Refusals.{notice};
 ghost use Rattle.faults.specs.Faults.{no_value, of_task, of_sheet, placed, numbered, told as notice_of};

@@ -1,4 +1,6 @@
 // The station: the engine with what every station keeps, and the calls that people make.
+#![tactic(auto)]
+
 mod calls;
 mod kept;
 mod laying;

@@ -7,7 +7,7 @@ use Rattle.machine.specs.Fragment.{Footprint, untouched, after, Run, begin, go, 
 use Rattle.machine.specs.MachineLaws as machine
 use Rattle.machine.specs.MachineLaws.{Stretch, Undisturbed}
 use Rattle.machine.specs.FragmentLaws.{Come, inside, left, finished, Faithful}
-use Rattle.machine.proofs.Updates.{upd_same, upd_other, eqb_not, eqb_true, decide}
+use Rattle.machine.proofs.Updates.{upd_same, upd_other, eqb_not, eqb-true, decide}
 use Rattle.machine.proofs.Events.{some_same, none_some, running}
 use Rattle.machine.proofs.Quiet.{quiet_each, not_quiet, and_left, and_right}
 use Rattle.machine.proofs.Inverts.{when_true, open_is, Occurred, occurred}
@@ -71,7 +71,7 @@ module _ {V : Type 0} (k : Meaning V) (p : Program V) (s : State V) (t : ℕ) wh
     by_event (opens u) is = absurd (loud (and_right _ _ (when_true (given p u && quiet p now) _ is).0))
     by_event {n} (runs u) is =
         elim (decide (eqb u t)) [
-          | inl same ↦ by_effect (asked k p t l) refl (subst (λ i. event k p (runs i) now ≡ Some n) (eqb_true u t same) is)
+          | inl same ↦ by_effect (asked k p t l) refl (subst (λ i. event k p (runs i) now ≡ Some n) (eqb-true u t same) is)
           | inr ne ↦ absurd (elsewhere u ne (occurred k p now n (runs u) is))
         ]
 

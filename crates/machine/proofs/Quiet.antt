@@ -4,7 +4,7 @@ use mathlib.Core.Bool.{false≢true}
 use Rattle.machine.specs.Update.{upd}
 use Rattle.machine.specs.Effect.{Program}
 use Rattle.machine.specs.Strong.{Phase, State, is_active, none_active, given, quiet}
-use Rattle.machine.proofs.Updates.{upd_same, upd_other, split, eqb_true, decide, true→T, T→true}
+use Rattle.machine.proofs.Updates.{upd_same, upd_other, split, eqb-true, decide, true→T, T→true}
 
 pub and_left : (a b : Bool) → (a && b) ≡ true → a ≡ true
 and_left true b e = refl
@@ -23,7 +23,7 @@ module _ {V : Type 0} where
   each zero phase e t h = absurd (not-suc-le-zero h)
   each (suc n) phase e t h =
       elim (decide (eqb t n)) [
-        | inl same ↦ subst (λ i. is_active (phase i) ≡ false) (sym (eqb_true t n same)) (not_true _ (and_left _ _ e))
+        | inl same ↦ subst (λ i. is_active (phase i) ≡ false) (sym (eqb-true t n same)) (not_true _ (and_left _ _ e))
         | inr ne ↦ each n phase (and_right (not (is_active (phase n))) (none_active n phase) e) t (below t n h ne)
       ]
     where

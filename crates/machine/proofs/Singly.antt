@@ -3,7 +3,7 @@ use Rattle.std.proofs.Common.{◌≡◌, ℕ, true, eqb, Some, sym, ap, ◌∙�
 use Rattle.machine.specs.Effect.{Meaning, Program}
 use Rattle.machine.specs.Strong.{State, Event, is_active, given, quiet, event, Reaches, here, more}
 use Rattle.machine.specs.MachineLaws.{OneAtATime}
-use Rattle.machine.proofs.Updates.{upd_other, eqb_true, decide}
+use Rattle.machine.proofs.Updates.{upd_other, eqb-true, decide}
 use Rattle.machine.proofs.Quiet.{quiet_each}
 use Rattle.machine.proofs.Inverts.{Occurred, occurred, task_of}
 
@@ -18,7 +18,7 @@ module _ {V : Type 0} (k : Meaning V) (p : Program V) where
   only : (s n : State V) (t : ℕ) → Single s → Occurred k p s n t → (u : ℕ) → given p u ≡ true → is_active (n.phase u) ≡ true → u ≡ t
   only s n t single o u g a =
       elim (decide (eqb u t)) [
-        | inl same ↦ eqb_true u t same
+        | inl same ↦ eqb-true u t same
         | inr other ↦ (let before : is_active (s.phase u) ≡ true = sym (ap (λ f. is_active (f u)) o.moves ∙ ap is_active (upd_other s.phase t o.to u other)) ∙ a in
             elim o.turn [
               | inl q ↦ absurd (true≢false (sym before ∙ quiet_each p s q u g))

@@ -15,14 +15,14 @@ true→T false e = absurd (true≢false (sym e))
 pub eqb_same : (n : ℕ) → eqb n n ≡ true
 eqb_same n = T→true (eqb n n) (eqb_refl n)
 
-pub eqb_true : (m n : ℕ) → eqb m n ≡ true → m ≡ n
-eqb_true m n e = eqb→eq m n (true→T (eqb m n) e)
+pub eqb-true : (m n : ℕ) → eqb m n ≡ true → m ≡ n
+eqb-true m n e = eqb→eq m n (true→T (eqb m n) e)
 
 pub eqb_not : (m n : ℕ) → m ≢ n → eqb m n ≡ false
 eqb_not m n ne = go (eqb m n) refl
   where
     go : (b : Bool) → eqb m n ≡ b → b ≡ false
-    go true e = absurd (ne (eqb_true m n e))
+    go true e = absurd (ne (eqb-true m n e))
     go false e = refl
 
 pub decide : (b : Bool) → (b ≡ true) ⊎ (b ≡ false)
@@ -32,7 +32,7 @@ decide false = inr refl
 -- a statement of every number, by that of k and that of each other
 pub split : (P : ℕ → Type 0) (k : ℕ) → P k → ((i : ℕ) → eqb i k ≡ false → P i) → (i : ℕ) → P i
 split P k same other i =
-    elim (decide (eqb i k)) [ inl e ↦ subst P (sym (eqb_true i k e)) same | inr e ↦ other i e ]
+    elim (decide (eqb i k)) [ inl e ↦ subst P (sym (eqb-true i k e)) same | inr e ↦ other i e ]
 
 module _ {A : Type 0} where
   pub upd_same : (f : ℕ → A) (k : ℕ) (v : A) → upd f k v k ≡ v

@@ -1,4 +1,6 @@
 // What a sheet's tasks are made of: the modes of cells, and the operations of tasks in one plain table.
+#![tactic(auto)]
+
 use value::Operation;
 
 mod table;

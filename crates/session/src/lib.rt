@@ -1,4 +1,6 @@
 // A session's input: a sheet, and after a line `(calls)` the calls to be made.
+#![tactic(auto)]
+
 ghost use Rattle.std.specs.Prelude.{◌≡◌, ◌+◌, ◌≤◌, length, IfSome, codes};
 ghost use Rattle.std.specs.Str.{bytes_eq};
 ghost use Rattle.text.specs.Cut.{cut};

@@ -1,7 +1,7 @@
 -- Frames of lines: what stands in a frame is found there, and a line in which it is found is that frame.
 use Rattle.std.proofs.Common.{◌≡◌, ℕ, suc, ◌+◌, ◌-◌, ◌<◌, true, ◌&&◌, eqb, ltb, List, [], ◌∷◌, ◌++◌, length, get_or, take, drop, Some, sym, refl, ap, ◌∙◌, append_assoc, arith}
 use Rattle.std.proofs.lemmas.List.{length-append, take_at, drop_at, get_or_at, length-drop, get_or-drop, get_or-append-add}
-use Rattle.std.proofs.lemmas.Bool.{cond-true, and_from, and_parts, eq-eqb, eqb_true, lt-ltb, ltb-true}
+use Rattle.std.proofs.lemmas.Bool.{cond-true, and_from, and_parts, eq-eqb, eqb-true, lt-ltb, ltb-true}
 use Rattle.text.specs.Frame.{begins, framed}
 use Rattle.sheet.proofs.Answered.{found}
 
@@ -14,7 +14,7 @@ front_from_begins [] line e = refl
 front_from_begins (h ∷ hs) [] e = absurd (grind arith)
 front_from_begins (h ∷ hs) (b ∷ bs) e =
     let p = and_parts (eqb h b) (begins hs bs) e in
-    λ i. sym (eqb_true h b p.0) i ∷ front_from_begins hs bs p.1 i
+    λ i. sym (eqb-true h b p.0) i ∷ front_from_begins hs bs p.1 i
 
 -- a list that ends with b
 ended_with : (xs : List ℕ) (b : ℕ) → 0 < length xs → get_or xs (length xs - 1) 0 ≡ b → xs ≡ take (length xs - 1) xs ++ (b ∷ [])
@@ -44,7 +44,7 @@ frame_from_framed head line mid e =
     let more : length head < length line = ltb-true _ _ q.0 in
     let len : length (drop (length head) line) ≡ length line - length head = length-drop (length head) line in
     let place : length head + (length (drop (length head) line) - 1) ≡ length line - 1 = omega arith in
-    let last : get_or (drop (length head) line) (length (drop (length head) line) - 1) 0 ≡ 41 = get_or-drop (length head) line _ 0 ∙ (ap (λ k. get_or line k 0) place ∙ eqb_true _ 41 q.1) in
+    let last : get_or (drop (length head) line) (length (drop (length head) line) - 1) 0 ≡ 41 = get_or-drop (length head) line _ 0 ∙ (ap (λ k. get_or line k 0) place ∙ eqb-true _ 41 q.1) in
     let size : length (drop (length head) line) - 1 ≡ length line - 1 - length head = omega arith in
     front_from_begins head line p.0
     ∙ ap (λ l. head ++ l) (ended_with (drop (length head) line) 41 (omega arith) last ∙ ap (λ l. l ++ (41 ∷ [])) (ap (λ k. take k (drop (length head) line)) size ∙ h.1))

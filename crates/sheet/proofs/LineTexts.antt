@@ -4,7 +4,7 @@ use Rattle.std.specs.List.{flat_map, AllByRecursion as All}
 use Rattle.std.proofs.ByRecursion.{All-push}
 use Rattle.std.proofs.lemmas.List.{length_push, flat_map_more, nil_from_length}
 use Rattle.std.proofs.lemmas.List.Sums.{sum_by_push}
-use Rattle.std.proofs.lemmas.Bool.{and_from, and_parts, eqb_true, eqb-false, leb-true, ltb-true}
+use Rattle.std.proofs.lemmas.Bool.{and_from, and_parts, eqb-true, eqb-false, leb-true, ltb-true}
 use Rattle.text.specs.Frame.{framed}
 use Rattle.text.specs.Number.{numeral}
 use Rattle.text.specs.Tokens.{Tok, tokens}
@@ -157,7 +157,7 @@ module _ {V : Type 0} (form : V → Option (List ℕ)) (reads : List Tok → Res
   cell_line s u m place l is e =
       let p = passed (eqb (length s.consts) 0 && eqb (length s.code) 0) _ BadForm u e in
       let q = and_parts (eqb (length s.consts) 0) _ p.0 in
-      subst (λ x. Added form s x u) (sym (frame_from_framed (cell_head m) l place is)) (cell_ways s u m place (nil_from_length _ (eqb_true _ 0 q.0)) (nil_from_length _ (eqb_true _ 0 q.1)) (reads (tokens place)) refl p.1)
+      subst (λ x. Added form s x u) (sym (frame_from_framed (cell_head m) l place is)) (cell_ways s u m place (nil_from_length _ (eqb-true _ 0 q.0)) (nil_from_length _ (eqb-true _ 0 q.1)) (reads (tokens place)) refl p.1)
 
   const_ways : (s u : Content V) (place : List ℕ) → s.code ≡ [] → (r : Result V Fault) → reads (tokens place) ≡ r → const_on s r ≡ Ok u → Added form s (const_head ++ (place ++ (41 ∷ []))) u
   const_ways s u place b (Err f) is e = absurd (let z : ◌≡◌ {A = ℕ} 0 1 = cc in omega arith)
@@ -168,7 +168,7 @@ module _ {V : Type 0} (form : V → Option (List ℕ)) (reads : List Tok → Res
   const_line : (s u : Content V) (place l : List ℕ) → framed const_head l ≡ Some place → const_in reads s place ≡ Ok u → Added form s l u
   const_line s u place l is e =
       let p = passed (eqb (length s.code) 0) _ BadForm u e in
-      subst (λ x. Added form s x u) (sym (frame_from_framed const_head l place is)) (const_ways s u place (nil_from_length _ (eqb_true _ 0 p.0)) (reads (tokens place)) refl p.1)
+      subst (λ x. Added form s x u) (sym (frame_from_framed const_head l place is)) (const_ways s u place (nil_from_length _ (eqb-true _ 0 p.0)) (reads (tokens place)) refl p.1)
 
   task_ways : (s u : Content V) (part : List ℕ) (o : Option ℕ) → numeral part ≡ o → task_on s o ≡ Ok u → Added form s (task_head ++ (part ++ (41 ∷ []))) u
   task_ways s u part None is e = absurd (let z : ◌≡◌ {A = ℕ} 0 1 = cc in omega arith)

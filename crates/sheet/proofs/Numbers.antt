@@ -4,7 +4,7 @@ use native.Mathlib.Nat.{pow-le-pow_right}
 use Rattle.std.specs.Str.Parse.{digits_value}
 use Rattle.std.specs.Char.{is_ascii_digit}
 use Rattle.std.specs.Str.{all_ascii_digits}
-use Rattle.std.proofs.lemmas.Bool.{cases_lt, cond-true, cond-false, and_parts, leb-true, eq-eqb, ne_eqb, eqb_true}
+use Rattle.std.proofs.lemmas.Bool.{cases_lt, cond-true, cond-false, and_parts, leb-true, eq-eqb, ne_eqb, eqb-true}
 use Rattle.std.proofs.lemmas.Fmt.{decimal-digits_value, digits_decimal, decimal_nonempty, length-decimal-le, first_decimal, decimal_digit, digits_value-decimal}
 use Rattle.std.proofs.lemmas.Int.Digits.{digits_value-lt}
 use Rattle.std.proofs.lemmas.Bool.Decides.{nat_tests}
@@ -28,7 +28,7 @@ numeral_decimal n h =
     named (decimal n) (decimal_nonempty n (small n h)) (length-decimal-le 10 n (omega arith) h (small n h)) (decimal-tidy n h) (digits_decimal own n (small n h)) ∙ ap Some (digits_value-decimal own n (small n h))
 
 lead_from_tidy : (ds : List ℕ) → tidy ds ≡ true → get_or ds 0 0 ≡ 48 → length ds ≡ 1
-lead_from_tidy ds t z = eqb_true _ 1 (sym (cond-true (eqb (get_or ds 0 0) 48) (eqb (length ds) 1) true (eq-eqb _ 48 z)) ∙ t)
+lead_from_tidy ds t z = eqb-true _ 1 (sym (cond-true (eqb (get_or ds 0 0) 48) (eqb (length ds) 1) true (eq-eqb _ 48 z)) ∙ t)
 
 pub decimal_from_numeral : (bs : List ℕ) (n : ℕ) → numeral bs ≡ Some n → (bs ≡ decimal n) × (n < 10 ^ 10)
 decimal_from_numeral bs n e =

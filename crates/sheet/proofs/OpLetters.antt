@@ -1,7 +1,7 @@
 -- Operations by their letters and numbers: each is read from its own, and from no others unless a number was cut down.
 use Rattle.std.proofs.Common.{◌≡◌, ℕ, ◌<◌, ◌≤◌, min, Bool, true, false, cond, eqb, ltb, List, [], ◌∷◌, length, Some, None, Ok, Option, Result, sym, refl, ap, ◌∙◌, subst, arith, lit<, lit≤}
 use Rattle.std.specs.List.{AllByRecursion as All}
-use Rattle.std.proofs.lemmas.Bool.{cond-true, and_parts, eqb_true, ltb-true, leb-true}
+use Rattle.std.proofs.lemmas.Bool.{cond-true, and_parts, eqb-true, ltb-true, leb-true}
 use Rattle.std.proofs.lemmas.Bool.Decides.{nat_tests}
 use Rattle.value.specs.Codes.{operation_number, operation_at}
 use Rattle.value.specs.declared.codes.Fault.{Fault}
@@ -67,7 +67,7 @@ pub record From (cells consts l : ℕ) (args : List ℕ) (op : Op) : Type 0 wher
   pub same_numbers : Whole op → numbers op ≡ args
 
 suited : (l : ℕ) (args : List ℕ) (c n : ℕ) → suits l args c n ≡ true → (c ≡ l) × (length args ≡ n)
-suited l args c n e = let p = and_parts (eqb l c) (eqb (length args) n) e in (sym (eqb_true l c p.0), eqb_true _ n p.1)
+suited l args c n e = let p = and_parts (eqb l c) (eqb (length args) n) e in (sym (eqb-true l c p.0), eqb-true _ n p.1)
 
 pub none_of : (xs : List ℕ) → length xs ≡ 0 → [] ≡ xs
 none_of [] h = refl

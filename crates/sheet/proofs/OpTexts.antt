@@ -1,7 +1,7 @@
 -- An operation's line: what is read of it is the operation that writes it.
 use Rattle.std.proofs.Common.{◌≡◌, ℕ, ◌≤◌, Bool, true, false, cond, eqb, List, [], ◌∷◌, ◌++◌, map, length, get_or, Some, None, Ok, Err, codes, decimal, Option, sym, refl, ap, ◌∙◌, append_assoc, arith, lit<, lit≤}
 use Rattle.std.specs.List.{flat_map, AllByRecursion as All}
-use Rattle.std.proofs.lemmas.Bool.{eqb_true}
+use Rattle.std.proofs.lemmas.Bool.{eqb-true}
 use Rattle.value.specs.declared.codes.Fault.TheVariants.{Form}
 use Rattle.program.specs.declared.Op.{Op}
 use Rattle.program.specs.declared.Op.TheVariants.{Finish, Read, Write, Constant, Apply, Jump, JumpIfFalse, Await, Start, Leave, Enter, Protect, Unprotect}
@@ -44,7 +44,7 @@ numbered cells consts op line l ps is o e false one h = absurd (let z : ◌≡�
 numbered cells consts op line l ps is None e true one h = absurd (let z : ◌≡◌ {A = ℕ} 0 1 = cc in omega arith)
 numbered cells consts op line l ps is (Some ns) e true one h =
     let f = operation_from cells consts (get_or l 0 0) ns op h in
-    let front : get_or l 0 0 ∷ [] ≡ l = one_of l (eqb_true _ 1 one) in
+    let front : get_or l 0 0 ∷ [] ≡ l = one_of l (eqb-true _ 1 one) in
     record {
       is_given = f.is_given;
       text = λ w. (λ i. 40 ∷ f.same_letter i ∷ ((ap (flat_map spaced) (f.same_numbers w) ∙ numbers-read ps ns e) i ++ (41 ∷ 10 ∷ [])))

@@ -2,7 +2,7 @@
 use Rattle.std.proofs.Common.{◌≡◌, ℕ, ◌+◌, eqb, ltb, List, [], ◌∷◌, ◌++◌, length, Some, None, Ok, Err, Option, Result, sym, refl, ap, ◌∙◌, subst, append_assoc, append-nil, arith, lit≤}
 use Rattle.std.specs.List.{AllByRecursion as All}
 use Rattle.std.proofs.lemmas.List.{nil_from_length}
-use Rattle.std.proofs.lemmas.Bool.{and_from, eqb_true}
+use Rattle.std.proofs.lemmas.Bool.{and_from, eqb-true}
 use Rattle.text.specs.Cut.{cut}
 use Rattle.text.specs.Tokens.{Tok}
 use Rattle.value.specs.declared.codes.Fault.{Fault}
@@ -69,7 +69,7 @@ module _ {V : Type 0} (form : V → Option (List ℕ)) (reads : List Tok → Res
   lines_read [] n s w k e = went_none form s w [] k refl e
   lines_read (l ∷ []) n s w k e =
       let p = passed (eqb (length l) 0) (settled s) (Line BadForm n) w e in
-      went_none form s w (l ∷ []) k (append-nil l ∙ nil_from_length l (eqb_true _ 0 p.0)) p.1
+      went_none form s w (l ∷ []) k (append-nil l ∙ nil_from_length l (eqb-true _ 0 p.0)) p.1
   lines_read (l ∷ m ∷ ms) n s w k e = line_ways n s w l m ms (judged reads s l) (λ u. lines_read (m ∷ ms) (n + 1) u w) k refl e
 
   kept-nothing : Kept form nothing

@@ -1,7 +1,7 @@
 -- Pieces between the bytes d: put together again they are the bytes, and a piece in front is cut off.
 use Rattle.std.proofs.Common.{◌≡◌, ℕ, ◌<◌, Bool, true, not, ◌&&◌, eqb, List, [], ◌∷◌, ◌++◌, length, sym, refl, ap, ◌∙◌, ⊎_elim, append-nil, arith}
 use Rattle.std.specs.List.{flat_map, AllByRecursion as All}
-use Rattle.std.proofs.lemmas.Bool.{cond-true, cond-false, eqb_true, eqb-false, eq-eqb, ne_eqb, cases_Bool, and_parts, not_true}
+use Rattle.std.proofs.lemmas.Bool.{cond-true, cond-false, eqb-true, eqb-false, eq-eqb, ne_eqb, cases_Bool, and_parts, not-true}
 use Rattle.text.specs.Cut.{onto, cut}
 
 -- pieces with a d between each two
@@ -34,7 +34,7 @@ rejoined_cut d [] = refl
 rejoined_cut d (b ∷ bs) =
     ⊎_elim
     (λ t. ap (rejoined d) (cond-true (eqb b d) ([] ∷ cut d bs) (onto b (cut d bs)) t)
-    ∙ (rejoined_more d (cut d bs) (cut_some d bs) ∙ (λ i. sym (eqb_true b d t) i ∷ rejoined_cut d bs i)))
+    ∙ (rejoined_more d (cut d bs) (cut_some d bs) ∙ (λ i. sym (eqb-true b d t) i ∷ rejoined_cut d bs i)))
     (λ f. ap (rejoined d) (cond-false (eqb b d) ([] ∷ cut d bs) (onto b (cut d bs)) f)
     ∙ (rejoined_onto d b (cut d bs) ∙ ap (λ l. b ∷ l) (rejoined_cut d bs)))
     (cases_Bool (eqb b d))
@@ -65,4 +65,4 @@ lacks d (b ∷ bs) = not (eqb b d) && lacks d bs
 pub without_from_lacks : (d : ℕ) (bs : List ℕ) → lacks d bs ≡ true → Without d bs
 without_from_lacks d [] e = tt
 without_from_lacks d (b ∷ bs) e =
-    let p = and_parts (not (eqb b d)) (lacks d bs) e in (eqb-false b d (not_true (eqb b d) p.0), without_from_lacks d bs p.1)
+    let p = and_parts (not (eqb b d)) (lacks d bs) e in (eqb-false b d (not-true (eqb b d) p.0), without_from_lacks d bs p.1)

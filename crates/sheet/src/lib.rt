@@ -1,4 +1,6 @@
 // Hand-over sheets: reading them from bytes and writing them back.
+#![tactic(auto)]
+
 mod kept;
 mod laws;
 mod lines_out;

@@ -1,4 +1,6 @@
 // Tests of what sheets take and refuse, on both sides of every limit.
+#![tactic(auto)]
+
 #[cfg(test)]
 mod calls;
 #[cfg(test)]

@@ -1,4 +1,6 @@
 // The engine: transactions side by side over shared cells, each undone by itself, and drivers on their own cells.
+#![tactic(auto)]
+
 mod board;
 mod both;
 mod calls;

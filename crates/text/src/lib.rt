@@ -1,4 +1,6 @@
 // Text: cutting bytes into pieces, numbers, tokens of values, frames of lines, and lines to be written.
+#![tactic(auto)]
+
 mod cut;
 mod decimals;
 mod frame;

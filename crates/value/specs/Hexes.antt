@@ -5,7 +5,7 @@ use Rattle.std.proofs.Math.Nat.{pow-le-pow_right}
 use Rattle.std.specs.Str.Parse.{AllDigits, digits_value}
 use Rattle.std.specs.Char.{digit_value, digit_char as digitChar}
 use Rattle.std.specs.List.{AllByRecursion as All}
-use Rattle.std.proofs.lemmas.Bool.{cond-true, cond-false, and_from, and_right, and_parts, eqb_true, eq-eqb, cases_Bool}
+use Rattle.std.proofs.lemmas.Bool.{cond-true, cond-false, and_from, and_right, and_parts, eqb-true, eq-eqb, cases_Bool}
 use Rattle.std.proofs.lemmas.Bool.Decides.{nat_tests}
 use Rattle.std.proofs.ByRecursion.{Decides-by_and, All-get_or, All-more, All-push}
 use Rattle.std.proofs.lemmas.List.{take_more, take_all, length_push}
@@ -115,7 +115,7 @@ hex_of_hexed bs n e =
     ⊎_elim
     (λ y.
     let p = and_parts (length bs == 8) (all_hex bs) y in
-    let l : length bs ≡ 8 = eqb_true (length bs) 8 p.0 in
+    let l : length bs ≡ 8 = eqb-true (length bs) 8 p.0 in
     let h = hexes_of bs p.1 in
     let f : Some (digits_value 16 bs) ≡ Some n = sym (cond-true (length bs == 8 && all_hex bs) (Some (digits_value 16 bs)) None y) ∙ e in
     let is : digits_value 16 bs ≡ n = cc in

@@ -3,7 +3,7 @@ use Rattle.std.specs.Prelude.{◌≡◌, ℕ, zero, suc, ◌<◌, ◌≤◌, Boo
 use Rattle.std.proofs.Common.{sym, ap, ◌∙◌, ⊎_elim, arith}
 use Rattle.std.specs.List.{flat_map, AllByRecursion as All}
 use Rattle.std.proofs.ByRecursion.{All-weaker}
-use Rattle.std.proofs.lemmas.Bool.{cond-true, cond-false, cases_Bool, and_parts, eqb_true, true≢false}
+use Rattle.std.proofs.lemmas.Bool.{cond-true, cond-false, cases_Bool, and_parts, eqb-true, true≢false}
 use Rattle.text.specs.Tokens.{Tok, end, number, word, mark, rest, seen, text, figure, atom, part, prefixed, lexed}
 use Rattle.text.specs.declared.token.Token.{Token}
 use Rattle.std.proofs.lemmas.List.{length-map, length_push}
@@ -33,7 +33,7 @@ text_mark : (b : ℕ) (t : Tok) → is_mark b t ≡ true → text t ≡ b ∷ []
 text_mark b end h = absurd (let z : ◌≡◌ {A = ℕ} 0 1 = cc in omega arith)
 text_mark b (number w) h = absurd (let z : ◌≡◌ {A = ℕ} 0 1 = cc in omega arith)
 text_mark b (word w) h = absurd (let z : ◌≡◌ {A = ℕ} 0 1 = cc in omega arith)
-text_mark b (mark c) h = ap (λ x. x ∷ []) (eqb_true c b h)
+text_mark b (mark c) h = ap (λ x. x ∷ []) (eqb-true c b h)
 text_mark b (rest w) h = absurd (let z : ◌≡◌ {A = ℕ} 0 1 = cc in omega arith)
 
 one_byte : (b : ℕ) (w : List ℕ) → length w ≡ 1 → slice_index w 0 ≡ b → w ≡ b ∷ []
@@ -44,7 +44,7 @@ one_byte b (c ∷ d ∷ w) l e = absurd (omega arith)
 text_letter : (b : ℕ) (t : Tok) → is_letter b t ≡ true → text t ≡ b ∷ []
 text_letter b end h = absurd (let z : ◌≡◌ {A = ℕ} 0 1 = cc in omega arith)
 text_letter b (number w) h = absurd (let z : ◌≡◌ {A = ℕ} 0 1 = cc in omega arith)
-text_letter b (word w) h = let p = and_parts _ _ h in one_byte b w (eqb_true _ 1 p.0) (eqb_true _ b p.1)
+text_letter b (word w) h = let p = and_parts _ _ h in one_byte b w (eqb-true _ 1 p.0) (eqb-true _ b p.1)
 text_letter b (mark c) h = absurd (let z : ◌≡◌ {A = ℕ} 0 1 = cc in omega arith)
 text_letter b (rest w) h = absurd (let z : ◌≡◌ {A = ℕ} 0 1 = cc in omega arith)
 
@@ -107,7 +107,7 @@ joined_lone letter ts h =
     let p = and_parts (length ts == 3) _ h in
     let q = and_parts (is_mark 40 (slice_index_or ts 0 end)) _ p.1 in
     let r = and_parts (is_letter letter (slice_index_or ts 1 end)) (is_mark 41 (slice_index_or ts 2 end)) q.1 in
-    three ts (eqb_true (length ts) 3 p.0)
+    three ts (eqb-true (length ts) 3 p.0)
     ∙ (λ i. text_mark 40 (slice_index_or ts 0 end) q.0 i ++ (text_letter letter (slice_index_or ts 1 end) r.0 i ++ (text_mark 41 (slice_index_or ts 2 end) r.1 i ++ [])))
 
 pub joined_tagged : (letter : ℕ) (ts : List Tok) (w : List ℕ) → tagged_part letter ts ≡ Some w → flat_map text ts ≡ tagged letter w
@@ -119,7 +119,7 @@ joined_tagged letter ts w e =
     let r = and_parts (is_letter letter (slice_index_or ts 1 end)) _ q.1 in
     let s = and_parts (is_mark 32 (slice_index_or ts 2 end)) (is_mark 41 (slice_index_or ts 4 end)) r.1 in
     let is : part_of (slice_index_or ts 3 end) ≡ Some w = sym (cond-true _ (part_of (slice_index_or ts 3 end)) None h) ∙ e in
-    five ts (eqb_true (length ts) 5 p.0)
+    five ts (eqb-true (length ts) 5 p.0)
     ∙ (λ i. text_mark 40 (slice_index_or ts 0 end) q.0 i ++ (text_letter letter (slice_index_or ts 1 end) r.0 i ++ (text_mark 32 (slice_index_or ts 2 end) s.0 i ++ (text_part (slice_index_or ts 3 end) w is i ++ (text_mark 41 (slice_index_or ts 4 end) s.1 i ++ []))))))
     (λ o.
     let g : None ≡ Some w = sym (cond-false _ (part_of (slice_index_or ts 3 end)) None o) ∙ e in

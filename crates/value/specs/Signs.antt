@@ -9,7 +9,7 @@ use Rattle.std.specs.Str.{all_ascii_digits}
 use Rattle.std.specs.Fmt.{signed_decimal}
 use Rattle.std.proofs.lemmas.Int.{to_z-of_z}
 use Rattle.std.proofs.lemmas.List.{take_rest}
-use Rattle.std.proofs.lemmas.Bool.{cond-true, cond-false, eq-eqb, ne_eqb, eqb_true, le-leb, lt-leb, leb-true, lt-ltb, ltb-true, and_parts, cases_Bool, cases_lt}
+use Rattle.std.proofs.lemmas.Bool.{cond-true, cond-false, eq-eqb, ne_eqb, eqb-true, le-leb, lt-leb, leb-true, lt-ltb, ltb-true, and_parts, cases_Bool, cases_lt}
 use Rattle.std.proofs.lemmas.Bool.Decides.{nat_tests}
 use Rattle.std.proofs.ByRecursion.{All-get_or, All-from_get_or, All-weaker}
 use Rattle.std.proofs.lemmas.Str.Parse.{digit_at}
@@ -57,7 +57,7 @@ numeral_decimal n h =
 
 -- and what it is read from
 lead : (bs : List ℕ) → tidy bs ≡ true → slice_index bs 0 ≡ 48 → length bs ≡ 1
-lead bs t e = eqb_true (length bs) 1 (sym (cond-true (slice_index bs 0 == 48) (length bs == 1) true (eq-eqb _ 48 e)) ∙ t)
+lead bs t e = eqb-true (length bs) 1 (sym (cond-true (slice_index bs 0 == 48) (length bs == 1) true (eq-eqb _ 48 e)) ∙ t)
 
 decimal_numeral : (bs : List ℕ) (n : ℕ) → numeral bs ≡ Some n → bs ≡ decimal n
 decimal_numeral bs n e =
@@ -134,7 +134,7 @@ signed_integer bs z e =
     ⊎_elim
     (λ y.
     let r = negative_ok (numeral (drop 1 bs)) z (sym (cond-true (slice_index bs 0 == 45) (negative (numeral (drop 1 bs))) (natural (numeral bs)) y) ∙ e) in
-    (ap in_32 r.3 ∙ lt-ltb r.0 2147483648 r.2, from_minus bs (eqb_true _ 45 y) ∙ (ap (λ l. 45 ∷ l) (decimal_numeral (drop 1 bs) (suc r.0) r.1) ∙ ap signed_decimal (sym r.3))))
+    (ap in_32 r.3 ∙ lt-ltb r.0 2147483648 r.2, from_minus bs (eqb-true _ 45 y) ∙ (ap (λ l. 45 ∷ l) (decimal_numeral (drop 1 bs) (suc r.0) r.1) ∙ ap signed_decimal (sym r.3))))
     (λ o.
     let r = natural_ok (numeral bs) z (sym (cond-false (slice_index bs 0 == 45) (negative (numeral (drop 1 bs))) (natural (numeral bs)) o) ∙ e) in
     (ap in_32 r.3 ∙ lt-ltb r.0 2147483648 r.2, decimal_numeral bs r.0 r.1 ∙ ap signed_decimal (sym r.3)))

@@ -1,4 +1,6 @@
 // Kinds of value: whole numbers and readings, their operations and the forms that sheets have for them.
+#![tactic(auto)]
+
 mod bearings;
 mod codes;
 mod forms;

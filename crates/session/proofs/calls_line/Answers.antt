@@ -9,17 +9,17 @@ returns-then-n-rest c = record {
   within = tt;
 }
 
-pub returns-then-is-calls : goal.returns-then-is-calls
-returns-then-is-calls c = record {
-  value = sym (found c.loop-rest.at c.loop-rest.line c.loop-rest.rest.now c.before-n.result c.before-n.ensures.value (omega (arith, c.before-n.ensures.within)) (sym c.if-is-calls.ensures)) ∙ c.loop-rest.invariant.0;
+pub returns-then-is_calls : goal.returns-then-is_calls
+returns-then-is_calls c = record {
+  value = sym (found c.loop-rest.at c.loop-rest.line c.loop-rest.rest.now c.before-n.result c.before-n.ensures.value (omega (arith, c.before-n.ensures.within)) (sym c.if-is_calls.ensures)) ∙ c.loop-rest.invariant.0;
   within =
-      let l = calls_long c.loop-rest.rest.now c.before-n.result c.before-n.ensures.within (sym c.if-is-calls.ensures) in
+      let l = calls_long c.loop-rest.rest.now c.before-n.result c.before-n.ensures.within (sym c.if-is_calls.ensures) in
       (omega (arith, c.loop-rest.invariant.1, c.before-n.ensures.within), c.loop-rest.invariant.2);
 }
 
 pub loop-rest-preserved : goal.loop-rest-preserved
 loop-rest-preserved c = (
-  sym (passed c.loop-rest.at c.loop-rest.line c.loop-rest.rest.now c.before-n.result c.before-n.ensures.value (omega (arith, c.before-n.ensures.within)) (sym c.if-is-calls.ensures)) ∙ c.loop-rest.invariant.0,
+  sym (passed c.loop-rest.at c.loop-rest.line c.loop-rest.rest.now c.before-n.result c.before-n.ensures.value (omega (arith, c.before-n.ensures.within)) (sym c.if-is_calls.ensures)) ∙ c.loop-rest.invariant.0,
   rw (take_rest, length-drop) (omega (arith, c.loop-rest.invariant.1)),
   omega (arith, c.loop-rest.invariant.2),
 )

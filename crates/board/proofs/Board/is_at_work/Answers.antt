@@ -8,5 +8,5 @@ loop-t-init c = any_none _
 pub loop-t-preserved : goal.loop-t-preserved
 loop-t-preserved c = search (rules, any_more)
 
-pub returns-in-default : goal.returns-in-default
-returns-in-default c = sym (any_at _ 16 c.loop-t.t (omega arith) (search rules))
+pub returns-in_default : goal.returns-in_default
+returns-in_default c = sym (any_at _ 16 c.loop-t.t (omega arith) (search rules))

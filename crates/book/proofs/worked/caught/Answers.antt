@@ -10,7 +10,7 @@ returns g c =
     ∙ ap (λ (s : ℕ → Bool). finished 3 s (g.B.Book.seen c.note.new.self)) (fun_ext one_cell)
     ∙ ap (finished 3 (λ k. eqb k 5)) (c.note.ensures.notes ∙ ap (noting 2 5 false) (c.begin.ensures.notes ∙ ap (begun 2) c.rest.ensures.notes)) in
     record {
-      flags = λ t. c.stale-flags.ensures t ∙ ap (stale_of t) notes ∙ only_two t;
+      flags = λ t. c.stale_flags.ensures t ∙ ap (stale_of t) notes ∙ only_two t;
       notes = notes;
       spare = λ k h.
           let rested = c.rest.ensures.spare k h in

@@ -8,4 +8,4 @@ pub returns : goal.returns
 returns g c few =
     let form = unwrap_or (g.K.Kind.form c.args.value) [] in
     let short = formed_short (g.K.Kind.form c.args.value) (g.met.K.Kind.short c.args.value) in
-    three c.args.head.now form line_end (spelt c.new-line.result) (spelt c.extend.new.self) (spelt c.extend-2.new.self) (spelt c.close.new.line) c.new-line.ensures c.extend.ensures (c.extend-2.ensures ∙ ap (added (spelt c.extend.new.self)) (c.as-slice.ensures ∙ c.form-of-form.ensures)) c.close.ensures (omega arith)
+    three c.args.head.now form line_end (spelt c.new-line.result) (spelt c.extend.new.self) (spelt c.extend-2.new.self) (spelt c.close.new.line) c.new-line.ensures c.extend.ensures (c.extend-2.ensures ∙ ap (added (spelt c.extend.new.self)) (c.as_slice.ensures ∙ c.form_of-form.ensures)) c.close.ensures (omega arith)

@@ -12,7 +12,7 @@ loop-n-init c = c.push-2.ensures ∙ (ap (λ l. added l (c.args.letter ∷ [])) 
 
 pub loop-n-preserved : goal.loop-n-preserved
 loop-n-preserved c =
-    spaced_more (40 ∷ c.args.letter ∷ []) (spelt c.loop-n.line) (spelt c.push-in-loop-n.new.self) (spelt c.push-number.new.self) c.args.numbers.now c.loop-n.n-index c.loop-n-test.true c.loop-n.invariant c.push-in-loop-n.ensures (c.push-number.ensures ∙ ap (λ m. added (spelt c.push-in-loop-n.new.self) (decimal m)) c.from.ensures)
+    spaced_more (40 ∷ c.args.letter ∷ []) (spelt c.loop-n.line) (spelt c.push-in-loop-n.new.self) (spelt c.push_number.new.self) c.args.numbers.now c.loop-n.n-index c.loop-n-test.true c.loop-n.invariant c.push-in-loop-n.ensures (c.push_number.ensures ∙ ap (λ m. added (spelt c.push-in-loop-n.new.self) (decimal m)) c.from.ensures)
 
 pub returns : goal.returns
 returns c few =

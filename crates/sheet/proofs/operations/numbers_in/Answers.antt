@@ -11,10 +11,10 @@ returns-then-k-ge4 c = record {
   taken = full _ c.loop-k.out c.loop-k.rest.now c.loop-k.k c.loop-k.invariant.1 c.loop-k.invariant.0 c.if-k-ge4.true c.loop-k.invariant.2;
 }
 
-pub returns-in-default : goal.returns-in-default
-returns-in-default c = record {
+pub returns-in_default : goal.returns-in_default
+returns-in_default c = record {
   sized = c.loop-k.invariant.1;
-  taken = bad _ c.loop-k.out c.loop-k.rest.now c.loop-k.k c.before-n.result c.before-n.ensures.value c.before-n.ensures.within (sym c.in-default.ensures) c.loop-k.invariant.2;
+  taken = bad _ c.loop-k.out c.loop-k.rest.now c.loop-k.k c.before-n.result c.before-n.ensures.value c.before-n.ensures.within (sym c.in_default.ensures) c.loop-k.invariant.2;
 }
 
 pub returns-then-n-rest : goal.returns-then-n-rest

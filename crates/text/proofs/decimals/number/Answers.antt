@@ -13,8 +13,8 @@ returns-then-part-eq0 c = grind (arith, nat_tests)
 pub returns-then-part-ne1 : goal.returns-then-part-ne1
 returns-then-part-ne1 c = grind (arith, nat_tests)
 
-pub returns-in-default : goal.returns-in-default
-returns-in-default c = sym (no_number c.args.part.now (no_digit _ c.loop-b.b-index c.loop-b-test.true (not_digit _ c.in-default.ensures)))
+pub returns-in_default : goal.returns-in_default
+returns-in_default c = sym (no_number c.args.part.now (no_digit _ c.loop-b.b-index c.loop-b-test.true (not_digit _ c.in_default.ensures)))
 
 pub loop-b-preserved : goal.loop-b-preserved
 loop-b-preserved c =

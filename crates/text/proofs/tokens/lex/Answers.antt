@@ -1,6 +1,6 @@
 use Rattle.std.proofs.Common.{◌≡◌, ◌-◌, ◌<◌, ◌≤◌, ◌++◌, map, length, take, sym, refl, ap, ◌∙◌, append-nil, arith, length-set}
 use Rattle.std.proofs.lemmas.List.{nil_from_length}
-use Rattle.std.proofs.lemmas.Bool.{eqb_true, eqb-false}
+use Rattle.std.proofs.lemmas.Bool.{eqb-true, eqb-false}
 use Rattle.text.specs.Tokens.{seen, lexed, trimmed}
 use Rattle.text.proofs.Lexing.{turn, full, stays_more}
 use Rattle.text.proofs.tokens.lex.Goals as goal
@@ -28,7 +28,7 @@ loop-rest-preserved c = (
 
 pub returns : goal.returns
 returns c =
-    let none = nil_from_length c.loop-rest.rest.now (eqb_true _ 0 (sym c.loop-rest-test.ensures)) in
+    let none = nil_from_length c.loop-rest.rest.now (eqb-true _ 0 (sym c.loop-rest-test.ensures)) in
     record {
       within = omega (arith, c.loop-rest.invariant.0);
       filled = sym (append-nil _) ∙ (ap (λ l. map seen (take c.loop-rest.n c.loop-rest.out) ++ trimmed (23 - c.loop-rest.n) (lexed l)) (sym none) ∙ c.loop-rest.invariant.1);

@@ -16,14 +16,14 @@ overflow-mul-n-in-97-to-102 c = let r = room _ _ (omega arith) c.loop-b.invarian
 pub overflow-add-n-in-97-to-102 : goal.overflow-add-n-in-97-to-102
 overflow-add-n-in-97-to-102 c = let r = room _ _ (omega arith) c.loop-b.invariant.fits in search rules
 
-pub returns-in-default : goal.returns-in-default
-returns-in-default c = sym (no_hex c.args.part.now c.loop-b.b-index c.loop-b-test.true (grind (arith, nat_tests)))
+pub returns-in_default : goal.returns-in_default
+returns-in_default c = sym (no_hex c.args.part.now c.loop-b.b-index c.loop-b-test.true (grind (arith, nat_tests)))
 
-pub returns-in-default·2 : goal.returns-in-default·2
-returns-in-default·2 c = sym (no_hex c.args.part.now c.loop-b.b-index c.loop-b-test.true (grind (arith, nat_tests)))
+pub returns-in_default·2 : goal.returns-in_default·2
+returns-in_default·2 c = sym (no_hex c.args.part.now c.loop-b.b-index c.loop-b-test.true (grind (arith, nat_tests)))
 
-pub returns-in-default·3 : goal.returns-in-default·3
-returns-in-default·3 c = sym (no_hex c.args.part.now c.loop-b.b-index c.loop-b-test.true (grind (arith, nat_tests)))
+pub returns-in_default·3 : goal.returns-in_default·3
+returns-in_default·3 c = sym (no_hex c.args.part.now c.loop-b.b-index c.loop-b-test.true (grind (arith, nat_tests)))
 
 pub loop-b-preserved : goal.loop-b-preserved
 loop-b-preserved c =

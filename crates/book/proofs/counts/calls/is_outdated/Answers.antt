@@ -8,5 +8,5 @@ loop-c-init c = any_none _
 pub loop-c-preserved : goal.loop-c-preserved
 loop-c-preserved c = search (rules, any_more)
 
-pub returns-then-has-moved : goal.returns-then-has-moved
-returns-then-has-moved c = sym (any_at _ 64 c.loop-c.c (omega arith) (search rules))
+pub returns-then-has_moved : goal.returns-then-has_moved
+returns-then-has_moved c = sym (any_at _ 64 c.loop-c.c (omega arith) (search rules))

@@ -3,8 +3,8 @@ use denote.Param.{layout}
 use Rattle.kept_station.proofs.Sizes.{sheet_fits}
 use Rattle.kept_station.proofs.kept.Station.write.Goals as goal
 
-pub sheet-in-requires : goal.sheet-in-requires
-sheet-in-requires g c =
+pub sheet_in-requires : goal.sheet_in-requires
+sheet_in-requires g c =
     (sheet_fits (layout g.row.K) (length c.args.slice.now) c.if-slice-lt-PLACES.false c.well-formed.1.0.1, c.if-slice-lt-PLACES.false)
 
 pub write-requires : goal.write-requires

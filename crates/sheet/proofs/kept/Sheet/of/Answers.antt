@@ -9,18 +9,18 @@ returns g c =
     let consts = c.args.consts in
     let full-cells : length cells ≡ 64 = omega arith in
     let full-consts : length consts ≡ 64 = omega arith in
-    let first : take c.if-cell-count-lt64.cell-count cells ≡ take c.args.cell-count cells =
-    elim c.if-cell-count-lt64.branch [
-      | then-cell-count-lt64 w ↦ ap (λ n. take n cells) w.cell-count-is
+    let first : take c.if-cell_count-lt64.cell_count cells ≡ take c.args.cell_count cells =
+    elim c.if-cell_count-lt64.branch [
+      | then-cell-count-lt64 w ↦ ap (λ n. take n cells) w.cell_count-is
       | else-cell-count-lt64 w ↦
-          ap (λ n. take n cells) w.cell-count-is
-          ∙ (take_all 64 cells (omega arith) ∙ sym (take_all c.args.cell-count cells (omega arith)))
+          ap (λ n. take n cells) w.cell_count-is
+          ∙ (take_all 64 cells (omega arith) ∙ sym (take_all c.args.cell_count cells (omega arith)))
     ] in
-    let second : take c.if-const-count-lt64.const-count consts ≡ take c.args.const-count consts =
-    elim c.if-const-count-lt64.branch [
-      | then-const-count-lt64 w ↦ ap (λ n. take n consts) w.const-count-is
+    let second : take c.if-const_count-lt64.const_count consts ≡ take c.args.const_count consts =
+    elim c.if-const_count-lt64.branch [
+      | then-const-count-lt64 w ↦ ap (λ n. take n consts) w.const_count-is
       | else-const-count-lt64 w ↦
-          ap (λ n. take n consts) w.const-count-is
-          ∙ (take_all 64 consts (omega arith) ∙ sym (take_all c.args.const-count consts (omega arith)))
+          ap (λ n. take n consts) w.const_count-is
+          ∙ (take_all 64 consts (omega arith) ∙ sym (take_all c.args.const_count consts (omega arith)))
     ] in
     cc

@@ -12,5 +12,5 @@ returns g c =
     let s = c.args.self.now in
     let cells = ap (flat_map (cell_text g.K.Kind.form)) c.cells.ensures in
     let consts = ap (flat_map (const_text g.K.Kind.form)) c.consts.ensures in
-    let p = all_put (flat_map (cell_text g.K.Kind.form) (content s).cells) (flat_map (const_text g.K.Kind.form) (content s).consts) (tasks_text (content s).owed (content s).code) c.args.out.now c.put-cells-cells.new.out c.put-consts-consts.new.out c.put-tasks.new.out c.put-cells-cells.result c.put-consts-consts.result c.put-tasks.result (c.put-cells-cells.ensures.text ∙ ap (λ l. over 0 l c.args.out.now) cells) (c.put-cells-cells.ensures.end ∙ ap (λ l. 0 + length l) cells) (c.put-consts-consts.ensures.text ∙ ap (λ l. over c.put-cells-cells.result l c.put-cells-cells.new.out) consts) (c.put-consts-consts.ensures.end ∙ ap (λ l. c.put-cells-cells.result + length l) consts) c.put-tasks.ensures.text c.put-tasks.ensures.end in
+    let p = all_put (flat_map (cell_text g.K.Kind.form) (content s).cells) (flat_map (const_text g.K.Kind.form) (content s).consts) (tasks_text (content s).owed (content s).code) c.args.out.now c.put_cells-cells.new.out c.put_consts-consts.new.out c.put_tasks.new.out c.put_cells-cells.result c.put_consts-consts.result c.put_tasks.result (c.put_cells-cells.ensures.text ∙ ap (λ l. over 0 l c.args.out.now) cells) (c.put_cells-cells.ensures.end ∙ ap (λ l. 0 + length l) cells) (c.put_consts-consts.ensures.text ∙ ap (λ l. over c.put_cells-cells.result l c.put_cells-cells.new.out) consts) (c.put_consts-consts.ensures.end ∙ ap (λ l. c.put_cells-cells.result + length l) consts) c.put_tasks.ensures.text c.put_tasks.ensures.end in
     record { text = p.laid; end = omega (arith, p.ends) }

@@ -11,6 +11,6 @@ returns g c =
       there = g.met.K.Kind.there;
     } in
     record {
-      value = c.take-text.ensures;
-      back = read_back g.K.Kind.form g.K.Kind.reads law c.args.text.now c.take-text.result c.take-text.ensures;
+      value = c.take_text.ensures;
+      back = read_back g.K.Kind.form g.K.Kind.reads law c.args.text.now c.take_text.result c.take_text.ensures;
     }

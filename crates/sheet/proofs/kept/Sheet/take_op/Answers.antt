@@ -4,11 +4,11 @@ use Rattle.sheet.specs.Sheets.{content}
 use Rattle.sheet.proofs.OpLines.{op_refused, op_accepted}
 use Rattle.sheet.proofs.kept.Sheet.take_op.Goals as goal
 
-pub returns-in-err-op : goal.returns-in-err-op
-returns-in-err-op g c =
+pub returns-in_err-op : goal.returns-in_err-op
+returns-in_err-op g c =
     let p = err_from_is_err_and c.from-residual.result c.from-residual.ensures.1 in
-    rw (p.1, p.2) (op_refused (content c.args.self.now) c.args.line.now (λ z. c.if-tasks-eq0.false (c.tasks.ensures.value ∙ z)) _ (sym c.in-err-op.ensures))
+    rw (p.1, p.2) (op_refused (content c.args.self.now) c.args.line.now (λ z. c.if-tasks-eq0.false (c.tasks.ensures.value ∙ z)) _ (sym c.in_err-op.ensures))
 
 pub returns : goal.returns
 returns g c =
-    rw (op_accepted (content c.args.self.now) c.args.line.now (λ z. c.if-tasks-eq0.false (c.tasks.ensures.value ∙ z)) c.in-ok-op.op (sym c.in-ok-op.ensures)) c.add-op.ensures
+    rw (op_accepted (content c.args.self.now) c.args.line.now (λ z. c.if-tasks-eq0.false (c.tasks.ensures.value ∙ z)) c.in_ok-op.op (sym c.in_ok-op.ensures)) c.add_op.ensures

@@ -12,7 +12,7 @@ returns g c =
       there = g.met.K.Kind.there;
     } in
     record {
-      answer = c.put-sheet.ensures.answer;
-      text = c.put-sheet.ensures.text;
-      back = write-back g.K.Kind.form g.K.Kind.reads law (content c.args.self.now) c.args.out.now c.put-sheet.new.out c.put-sheet.result c.put-sheet.ensures.answer c.put-sheet.ensures.text;
+      answer = c.put_sheet.ensures.answer;
+      text = c.put_sheet.ensures.text;
+      back = write-back g.K.Kind.form g.K.Kind.reads law (content c.args.self.now) c.args.out.now c.put_sheet.new.out c.put_sheet.result c.put_sheet.ensures.answer c.put_sheet.ensures.text;
     }

@@ -18,7 +18,7 @@ loop-t-preserved c =
     let n = c.tasks-tasks.ensures.value in
     let h : c.loop-t.t < length cs = omega (arith, c.loop-t-test.true, n) in (
       ap (λ m. first_stray c.tasks-tasks.result (c.loop-t.line + 1 + m) (drop (c.loop-t.t + 1) cs)) c.len.ensures.value
-          ∙ (sym (passed c.tasks-tasks.result c.loop-t.line cs c.loop-t.t h (ap (λ m. stray_in (length (get_or cs c.loop-t.t [])) m (c.loop-t.line + 1) (get_or cs c.loop-t.t [])) n ∙ sym c.in-default.ensures)) ∙ c.loop-t.invariant.0),
+          ∙ (sym (passed c.tasks-tasks.result c.loop-t.line cs c.loop-t.t h (ap (λ m. stray_in (length (get_or cs c.loop-t.t [])) m (c.loop-t.line + 1) (get_or cs c.loop-t.t [])) n ∙ sym c.in_default.ensures)) ∙ c.loop-t.invariant.0),
       omega (arith, c.len.ensures.bound, c.loop-t.invariant.1),
     )
 

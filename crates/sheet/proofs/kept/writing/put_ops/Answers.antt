@@ -13,7 +13,7 @@ pub loop-p-preserved : goal.loop-p-preserved
 loop-p-preserved c =
     let ops = get_or (code c.args.program.now) c.args.t [] in
     let h : c.loop-p.p < length ops = omega (arith, c.loop-p-test.true, c.len-len.ensures.value) in (
-      line_put op_text c.args.at ops c.loop-p.p c.op.result (spelt c.op-line-of.result) c.args.out.now c.loop-p.out c.put-end.new.out c.loop-p.end c.put-end.result h (c.op.ensures ∙ get_or_default ops c.loop-p.p _ c.op.result h) c.op-line-of.ensures c.loop-p.invariant.0 c.put-end.ensures.text c.put-end.ensures.end,
+      line_put op_text c.args.at ops c.loop-p.p c.op.result (spelt c.op_line_of.result) c.args.out.now c.loop-p.out c.put-end.new.out c.loop-p.end c.put-end.result h (c.op.ensures ∙ get_or_default ops c.loop-p.p _ c.op.result h) c.op_line_of.ensures c.loop-p.invariant.0 c.put-end.ensures.text c.put-end.ensures.end,
       omega (arith, c.put-end.ensures.bound, c.loop-p.invariant.1),
     )
 

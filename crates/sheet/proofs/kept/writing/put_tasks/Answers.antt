@@ -15,8 +15,8 @@ loop-t-preserved c =
     let n = c.tasks-tasks.ensures.value in
     let h : c.loop-t.t < length cs = omega (arith, c.loop-t-test.true) in
     let l = length-take-le (length cs) c.args.owed.now (omega (arith, c.tasks-tasks.ensures.bound, c.told-owed)) in (
-      task_put c.args.at (take (length cs) c.args.owed.now) cs c.loop-t.t (spelt c.task_line.result) c.args.out.now c.loop-t.out c.put-end.new.out c.put-ops-end.new.out c.loop-t.end c.put-end.result c.put-ops-end.result (omega arith) h (c.task_line.ensures ∙ ap task_text (sym (get_or-take (length cs) c.args.owed.now c.loop-t.t 0 h))) c.loop-t.invariant.0 c.put-end.ensures.text c.put-end.ensures.end c.put-ops-end.ensures.text c.put-ops-end.ensures.end,
-      omega (arith, c.put-end.ensures.bound, c.put-ops-end.ensures.bound, c.loop-t.invariant.1),
+      task_put c.args.at (take (length cs) c.args.owed.now) cs c.loop-t.t (spelt c.task_line.result) c.args.out.now c.loop-t.out c.put-end.new.out c.put_ops-end.new.out c.loop-t.end c.put-end.result c.put_ops-end.result (omega arith) h (c.task_line.ensures ∙ ap task_text (sym (get_or-take (length cs) c.args.owed.now c.loop-t.t 0 h))) c.loop-t.invariant.0 c.put-end.ensures.text c.put-end.ensures.end c.put_ops-end.ensures.text c.put_ops-end.ensures.end,
+      omega (arith, c.put-end.ensures.bound, c.put_ops-end.ensures.bound, c.loop-t.invariant.1),
     )
 
 pub returns : goal.returns

@@ -15,7 +15,7 @@ returns-then-t-lt16 c =
     record {
       notes = c.forget.ensures.notes
           ∙ is_finished c.args.t _ (counted old) _ (omega arith) (λ u d. refl)
-          (λ u. finish_stale (get_or old.flag u false) (get_or c.flag-worn.new.flag u false) (get_or old.first u []) c.args.cells.now old.commits c.count_all.new.commits (c.flag-worn.ensures u) c.count_all.ensures (old.ok u));
+          (λ u. finish_stale (get_or old.flag u false) (get_or c.flag_worn.new.flag u false) (get_or old.first u []) c.args.cells.now old.commits c.count_all.new.commits (c.flag_worn.ensures u) c.count_all.ensures (old.ok u));
       spare = spends c.args.t _ _ _ (omega arith)
           (λ d. rw (ap (λ (f : ℕ → ℕ). f d) c.forget.ensures.spare) (left_bounds (get_or c.args.cells.now d false) (get_or old.commits d 0) (get_or c.count_all.new.commits d 0) (c.count_all.ensures d)));
     }

@@ -7,14 +7,14 @@ use Rattle.book.proofs.counts.calls.CountsBook.note.Goals as goal
 pub invariant-of-self : goal.invariant-of-self
 invariant-of-self c =
     let old = c.args.self.now in
-    (noting_first old.first old.commits c.note-first.new.firsts c.args.t c.args.c (omega arith) c.note-first.ensures old.ok, tt)
+    (noting_first old.first old.commits c.note_first.new.firsts c.args.t c.args.c (omega arith) c.note_first.ensures old.ok, tt)
 
 pub returns-then-c-lt64 : goal.returns-then-c-lt64
 returns-then-c-lt64 c =
     let old = c.args.self.now in
     record {
       notes = is_noting c.args.t c.args.c c.args.held (counted old) _ (omega arith) (omega arith)
-          (noting-noted old.first old.commits c.note-first.new.firsts c.args.t c.args.c (omega arith) c.note-first.ensures)
-          (λ u. noting-stale old.first old.commits c.note-first.new.firsts c.args.t c.args.c (omega arith) c.note-first.ensures old.flag c.args.held u (omega arith));
+          (noting-noted old.first old.commits c.note_first.new.firsts c.args.t c.args.c (omega arith) c.note_first.ensures)
+          (λ u. noting-stale old.first old.commits c.note_first.new.firsts c.args.t c.args.c (omega arith) c.note_first.ensures old.flag c.args.held u (omega arith));
       spare = refl;
     }
