@@ -8,8 +8,8 @@ use Rattle.board.proofs.Board.add_owed.Goals as goal
 pub loop-u-init : goal.loop-u-init
 loop-u-init c = simp delivered_none (search rules)
 
-pub overflow-add-self : goal.overflow-add-self
-overflow-add-self c =
+pub overflow_add-self : goal.overflow_add-self
+overflow_add-self c =
     let b = c.loop-u.self in
     let u = c.loop-u.u in
     let same : row_at b u ≡ row_at c.args.self.now u =

@@ -16,4 +16,4 @@ loop-n-preserved c =
 
 pub returns : goal.returns
 returns c few =
-    words_short c.args.letter c.args.numbers.now (spelt c.loop-n.line) (spelt c.close.new.line) (λ i. omega (arith, c.type-inv.numbers i)) (c.loop-n.invariant ∙ ap (λ ns. added (40 ∷ c.args.letter ∷ []) (flat_map spaced ns)) (take_all c.loop-n.n-index c.args.numbers.now c.loop-n-test.false)) c.close.ensures few
+    words_short c.args.letter c.args.numbers.now (spelt c.loop-n.line) (spelt c.close.new.line) (λ i. omega (arith, c.type_inv.numbers i)) (c.loop-n.invariant ∙ ap (λ ns. added (40 ∷ c.args.letter ∷ []) (flat_map spaced ns)) (take_all c.loop-n.n-index c.args.numbers.now c.loop-n-test.false)) c.close.ensures few

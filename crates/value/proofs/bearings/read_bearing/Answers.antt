@@ -6,5 +6,5 @@ use Rattle.value.proofs.bearings.read_bearing.Goals as goal
 pub returns-then-bits-gt-INFINITY : goal.returns-then-bits-gt-INFINITY
 returns-then-bits-gt-INFINITY c = sym (nan_past c.in-Some.bits c.if-bits-gt-INFINITY.true) ∙ ap bearing_at c.in-Some.ensures
 
-pub float-from_bits-x : goal.float-from_bits-x
-float-from_bits-x c = no_nan c.in-Some.bits c.if-bits-gt-INFINITY.false
+pub float_from_bits-x : goal.float_from_bits-x
+float_from_bits-x c = no_nan c.in-Some.bits c.if-bits-gt-INFINITY.false

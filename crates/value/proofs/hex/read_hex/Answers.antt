@@ -4,26 +4,26 @@ use Rattle.value.specs.Hexes.{turn, no_hex, room, figure_value, letter_value, fi
 use Rattle.value.proofs.hex.read_hex.Goals as goal
 use Rattle.value.proofs.hex.read_hex.Goals.{in-48-to-57, in-97-to-102}
 
-pub overflow-mul-n : goal.overflow-mul-n
-overflow-mul-n c = let r = room _ _ (omega arith) c.loop-b.invariant.fits in search rules
+pub overflow_mul-n : goal.overflow_mul-n
+overflow_mul-n c = let r = room _ _ (omega arith) c.loop-b.invariant.fits in search rules
 
-pub overflow-add-n : goal.overflow-add-n
-overflow-add-n c = let r = room _ _ (omega arith) c.loop-b.invariant.fits in search rules
+pub overflow_add-n : goal.overflow_add-n
+overflow_add-n c = let r = room _ _ (omega arith) c.loop-b.invariant.fits in search rules
 
-pub overflow-mul-n-in-97-to-102 : goal.overflow-mul-n-in-97-to-102
-overflow-mul-n-in-97-to-102 c = let r = room _ _ (omega arith) c.loop-b.invariant.fits in search rules
+pub overflow_mul-n-in-97-to-102 : goal.overflow_mul-n-in-97-to-102
+overflow_mul-n-in-97-to-102 c = let r = room _ _ (omega arith) c.loop-b.invariant.fits in search rules
 
-pub overflow-add-n-in-97-to-102 : goal.overflow-add-n-in-97-to-102
-overflow-add-n-in-97-to-102 c = let r = room _ _ (omega arith) c.loop-b.invariant.fits in search rules
+pub overflow_add-n-in-97-to-102 : goal.overflow_add-n-in-97-to-102
+overflow_add-n-in-97-to-102 c = let r = room _ _ (omega arith) c.loop-b.invariant.fits in search rules
 
 pub returns-in_default : goal.returns-in_default
 returns-in_default c = sym (no_hex c.args.part.now c.loop-b.b-index c.loop-b-test.true (grind (arith, nat_tests)))
 
-pub returns-in_default·2 : goal.returns-in_default·2
-returns-in_default·2 c = sym (no_hex c.args.part.now c.loop-b.b-index c.loop-b-test.true (grind (arith, nat_tests)))
+pub returns-in_default-2 : goal.returns-in_default-2
+returns-in_default-2 c = sym (no_hex c.args.part.now c.loop-b.b-index c.loop-b-test.true (grind (arith, nat_tests)))
 
-pub returns-in_default·3 : goal.returns-in_default·3
-returns-in_default·3 c = sym (no_hex c.args.part.now c.loop-b.b-index c.loop-b-test.true (grind (arith, nat_tests)))
+pub returns-in_default-3 : goal.returns-in_default-3
+returns-in_default-3 c = sym (no_hex c.args.part.now c.loop-b.b-index c.loop-b-test.true (grind (arith, nat_tests)))
 
 pub loop-b-preserved : goal.loop-b-preserved
 loop-b-preserved c =

@@ -4,8 +4,8 @@ use Rattle.book.proofs.Counting.{none_noted, none_stale, none_first}
 use Rattle.book.proofs.Tables.{all_in}
 use Rattle.book.proofs.counts.Counts.new.Goals as goal
 
-pub invariant-of-result : goal.invariant-of-result
-invariant-of-result c = (λ u k n e. none_first u k n e, tt)
+pub invariant_of-result : goal.invariant_of-result
+invariant_of-result c = (λ u k n e. none_first u k n e, tt)
 
 pub returns : goal.returns
 returns c = record { notes = same_seen _ _ none_noted none_stale; spare = λ k. omega (arith, all_in {X = ℕ} 0 64 k) }

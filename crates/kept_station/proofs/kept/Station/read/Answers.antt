@@ -8,12 +8,12 @@ use Rattle.kept_station.proofs.Sizes.{sheet_fits}
 use Rattle.kept_station.proofs.kept.Station.read.Goals as goal
 
 pub read-requires : goal.read-requires
-read-requires g c = sheet_fits (layout g.row.K) (length c.args.slice.now) c.if-slice-lt-PLACES.false c.well-formed.1.0.1
+read-requires g c = sheet_fits (layout g.row.K) (length c.args.slice.now) c.if-slice-lt-PLACES.false c.well_formed.1.0.1
 
 pub set_up-requires : goal.set_up-requires
 set_up-requires g c =
-    (sheet_fits (layout g.row.K) (length c.args.slice.now) c.if-slice-lt-PLACES.false c.well-formed.1.0.1, c.if-slice-lt-PLACES.false)
+    (sheet_fits (layout g.row.K) (length c.args.slice.now) c.if-slice-lt-PLACES.false c.well_formed.1.0.1, c.if-slice-lt-PLACES.false)
 
-pub invariant-of-self : goal.invariant-of-self
-invariant-of-self g c =
+pub invariant_of-self : goal.invariant_of-self
+invariant_of-self g c =
     does_hold c.set_up.ensures (set_up_keeps g.K.Kind.nought (world_of g.B.Book.seen c.args.self.now.engine c.args.slice.now) (content c.in_ok-sheet.sheet) c.in_ok-sheet.ensures.back.0)

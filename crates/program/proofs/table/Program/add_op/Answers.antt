@@ -18,14 +18,14 @@ returns-then-t-eq0 c =
       after = refl;
     }
 
-pub overflow-add-self-2 : goal.overflow-add-self-2
-overflow-add-self-2 c =
+pub overflow_add-self-2 : goal.overflow_add-self-2
+overflow_add-self-2 c =
     let p = c.args.self.now in
     let l = short p.ops p.used p.firsts p.lens p.count (of p) (omega arith) in
     omega arith
 
-pub invariant-of-self : goal.invariant-of-self
-invariant-of-self c =
+pub invariant_of-self : goal.invariant_of-self
+invariant_of-self c =
     let p = c.args.self.now in
     let k = op_kept p.ops p.used p.firsts p.lens p.count (of p) c.args.op (omega arith) c.if-n-ge1024.false in
     ((k.room, k.firsts, k.lens, k.few, k.within), (k.filled, (k.placed, tt)))

@@ -3,8 +3,8 @@ use Rattle.std.proofs.lemmas.Bool.{lt-ltb}
 use Rattle.program.proofs.Tables.{of, tasks, task-added, task-kept}
 use Rattle.program.proofs.table.Program.add_task.Goals as goal
 
-pub invariant-of-self : goal.invariant-of-self
-invariant-of-self c =
+pub invariant_of-self : goal.invariant_of-self
+invariant_of-self c =
     let p = c.args.self.now in
     let k = task-kept p.ops p.used p.firsts p.lens p.count (of p) c.if-t-ge16.false in
     ((k.room, k.firsts, k.lens, k.few, k.within), (k.filled, (k.placed, tt)))

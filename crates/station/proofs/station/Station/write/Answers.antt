@@ -5,7 +5,7 @@ use Rattle.station.proofs.station.Station.write.Goals as goal
 
 pub sheet-requires : goal.sheet-requires
 sheet-requires g c =
-    (sheet_fits (layout g.row.K) (length c.args.slice.now) c.if-slice-lt-PLACES.false c.well-formed.1.0.1, c.if-slice-lt-PLACES.false)
+    (sheet_fits (layout g.row.K) (length c.args.slice.now) c.if-slice-lt-PLACES.false c.well_formed.1.0.1, c.if-slice-lt-PLACES.false)
 
 pub write-requires : goal.write-requires
-write-requires g c = sheet_fits (layout g.row.K) (length c.args.slice.now) c.if-slice-lt-PLACES.false c.well-formed.1.0.1
+write-requires g c = sheet_fits (layout g.row.K) (length c.args.slice.now) c.if-slice-lt-PLACES.false c.well_formed.1.0.1

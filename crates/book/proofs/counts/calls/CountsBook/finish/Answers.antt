@@ -4,8 +4,8 @@ use Rattle.book.proofs.Changes.{is_finished, spends}
 use Rattle.book.proofs.Counting.{finish_stale, risen_least, left_bounds}
 use Rattle.book.proofs.counts.calls.CountsBook.finish.Goals as goal
 
-pub invariant-of-self : goal.invariant-of-self
-invariant-of-self c =
+pub invariant_of-self : goal.invariant_of-self
+invariant_of-self c =
     let old = c.args.self.now in
     (λ u d n e. let rise = risen_least (get_or c.args.cells.now d false) (get_or old.commits d 0) (get_or c.count_all.new.commits d 0) (c.count_all.ensures d) in omega (arith, old.ok u d n e), tt)
 

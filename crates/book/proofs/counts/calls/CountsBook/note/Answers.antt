@@ -4,8 +4,8 @@ use Rattle.book.proofs.Changes.{is_noting}
 use Rattle.book.proofs.Counting.{noting-noted, noting-stale, noting_first}
 use Rattle.book.proofs.counts.calls.CountsBook.note.Goals as goal
 
-pub invariant-of-self : goal.invariant-of-self
-invariant-of-self c =
+pub invariant_of-self : goal.invariant_of-self
+invariant_of-self c =
     let old = c.args.self.now in
     (noting_first old.first old.commits c.note_first.new.firsts c.args.t c.args.c (omega arith) c.note_first.ensures old.ok, tt)
 

@@ -4,8 +4,8 @@ use Rattle.book.proofs.Counting.{none_noted, none_stale, none_first}
 use Rattle.book.proofs.Tables.{all_in}
 use Rattle.book.proofs.counts.calls.CountsBook.rest.Goals as goal
 
-pub invariant-of-self : goal.invariant-of-self
-invariant-of-self c = (λ u k n e. none_first u k n e, tt)
+pub invariant_of-self : goal.invariant_of-self
+invariant_of-self c = (λ u k n e. none_first u k n e, tt)
 
 pub returns : goal.returns
 returns c = record { notes = same_seen _ _ none_noted none_stale; spare = λ k h. omega (arith, all_in {X = ℕ} 0 64 k) }
