@@ -6,7 +6,7 @@ use crate::Book;
 
 // The answer of `is_stale` for each task of a station.
 pub fn stale_flags<B: Book>(book: &B) -> [bool; 16]
-    ensures { (t : ℕ) → slice_index_or result t false ≡ stale_of t (seen book.now) }
+    ensures { (t : ℕ) → slice_index_or result t false ≡ stale_of t (B.seen book.now) }
 {
     let mut flags = [false; 16];
     for t in 0..16 {
@@ -18,8 +18,8 @@ pub fn stale_flags<B: Book>(book: &B) -> [bool; 16]
 // Task 2 notes cell 5, and task 3 finishes with cell 5: then task 2 is stale, and nobody else is.
 pub fn caught<B: Book>(book: &mut B) -> [bool; 16]
     ensures flags { (t : ℕ) → slice_index_or result t false ≡ (t == 2) }
-    ensures notes { seen book.new ≡ finished 3 (λ c. nat_eq c 5) (noting 2 5 false (begun 2 rested)) }
-    ensures spare { (c : ℕ) → c < 64 → 199 ≤ left book.new c }
+    ensures notes { B.seen book.new ≡ finished 3 (λ c. nat_eq c 5) (noting 2 5 false (begun 2 rested)) }
+    ensures spare { (c : ℕ) → c < 64 → 199 ≤ B.left book.new c }
 {
     let mut cells = [false; 64];
     cells[5] = true;

@@ -120,7 +120,7 @@ impl Board {
     // The cells that t owns take their saved values.
     pub(crate) fn restore<K: Kind>(&self, slice: &mut [K], t: usize)
         requires long { 320 ≤ length slice.old }
-        ensures { slice.new ≡ restored t nought self.now.owners slice.old 64 }
+        ensures { slice.new ≡ restored t K.nought self.now.owners slice.old 64 }
     {
         for c in 0..64 {
             if let Some(u) = self.owners[c] {

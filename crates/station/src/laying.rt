@@ -14,7 +14,7 @@ use value::Kind;
 // All 320 places become the kind's zero.
 pub(crate) fn blank<K: Kind>(slice: &mut [K])
     requires { 320 ≤ length slice.old }
-    ensures { slice.new ≡ blanked nought slice.old 320 }
+    ensures { slice.new ≡ blanked K.nought slice.old 320 }
 {
     let zero = K::nil();
     for i in 0..PLACES {

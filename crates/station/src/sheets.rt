@@ -32,7 +32,7 @@ fn board_of<K: Kind>(cells: &[Cell<K>], owed: &[u8]) -> Board
 // The constants in their places of the slice.
 fn consts_in<K: Kind>(slice: &[K]) -> [K; 64]
     requires { 320 ≤ length slice.now }
-    ensures { result ≡ tabulated (constant_in nought slice.now) 64 }
+    ensures { result ≡ tabulated (constant_in K.nought slice.now) 64 }
 {
     let mut consts = [K::nil(); 64];
     for n in 0..64 {
@@ -45,7 +45,7 @@ impl Board {
     // The cells with their modes.
     fn cells_in<K: Kind>(&self, slice: &[K]) -> [Cell<K>; 64]
         requires { 320 ≤ length slice.now }
-        ensures { result ≡ tabulated (cell_in nought self.now slice.now) 64 }
+        ensures { result ≡ tabulated (cell_in K.nought self.now slice.now) 64 }
     {
         let mut cells = [Cell {
             mode: Mode::Protected,

@@ -7,7 +7,7 @@ pub invariant_of-self : goal.invariant_of-self
 invariant_of-self c =
     let p = c.args.self.now in
     let k = task-kept p.ops p.used p.firsts p.lens p.count (of p) c.if-t-ge16.false in
-    ((k.room, k.firsts, k.lens, k.few, k.within), (k.filled, (k.placed, tt)))
+    record { sizes = (k.room, k.firsts, k.lens, k.few, k.within); filled = k.filled; placed = k.placed }
 
 pub returns : goal.returns
 returns c =
