@@ -1,6 +1,6 @@
-use Rattle.std.proofs.Common.{◌≡◌, true, false, ◌∷◌, get_or, sym, refl, ap, ◌∙◌, arith, length-drop}
+use Rattle.std.proofs.Common.{true, false, ◌∷◌, get_or, sym, refl, ap, ◌∙◌, arith, length-drop}
 use Rattle.std.proofs.lemmas.List.{take_rest}
-use Rattle.text.specs.Tokens.{atom, mark, lexed}
+use Rattle.text.specs.Tokens.{mark, lexed}
 use Rattle.text.proofs.Lexing.{first_part, first_mark}
 use Rattle.text.proofs.tokens.next.Goals as goal
 

@@ -1,4 +1,4 @@
-use Rattle.std.proofs.Common.{◌<◌, ltb, length, sum_by, sym, refl, ap, ◌∙◌, arith}
+use Rattle.std.proofs.Common.{◌<◌, ltb, length, sum_by, sym, refl, arith}
 use Rattle.program.specs.Program.{code}
 use Rattle.std.proofs.lemmas.Bool.{lt-ltb, le-ltb, and_from, and_left, and_right}
 use Rattle.program.proofs.Tables.{of, tasks, total, short, op_added, op_kept}

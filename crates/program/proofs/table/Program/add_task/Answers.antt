@@ -1,4 +1,4 @@
-use Rattle.std.proofs.Common.{sym, ap, ◌∙◌, arith}
+use Rattle.std.proofs.Common.{sym, arith}
 use Rattle.std.proofs.lemmas.Bool.{lt-ltb}
 use Rattle.program.proofs.Tables.{of, tasks, task-added, task-kept}
 use Rattle.program.proofs.table.Program.add_task.Goals as goal

@@ -1,4 +1,4 @@
-use Rattle.std.proofs.Common.{get_or, sym, ap, ◌∙◌, arith}
+use Rattle.std.proofs.Common.{get_or, sym, ap, arith}
 use Rattle.program.specs.declared.Op.TheVariants.{Finish}
 use Rattle.program.proofs.Tables.{of, within-table, op_at, op_past, len_past}
 use Rattle.program.proofs.table.Program.op.Goals as goal

@@ -1,4 +1,4 @@
-use Rattle.std.proofs.Common.{◌≡◌, ◌+◌, ◌%◌, ◌^◌, ◌<◌, [], ◌∷◌, ap, ◌∙◌, arith}
+use Rattle.std.proofs.Common.{◌+◌, ◌%◌, [], ◌∷◌, ap, ◌∙◌, arith}
 use Rattle.text.specs.Line.{spelt, added}
 use Rattle.text.proofs.Lines.{digits_more, digits_one}
 use Rattle.text.proofs.output.Line.+push_number.Goals as goal

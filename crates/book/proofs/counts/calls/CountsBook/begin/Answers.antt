@@ -5,7 +5,7 @@ use Rattle.book.proofs.Counting.{begun-noted, begun-stale, begun_first}
 use Rattle.book.proofs.counts.calls.CountsBook.begin.Goals as goal
 
 pub invariant_of-self : goal.invariant_of-self
-invariant_of-self c = λ u k n e. c.args.self.now.ok u k n (begun_first c.args.self.now.first c.args.t u (omega arith) k n e)
+invariant_of-self c = record { ok = λ u k n e. c.args.self.now.ok u k n (begun_first c.args.self.now.first c.args.t u (omega arith) k n e) }
 
 pub returns-then-t-lt16 : goal.returns-then-t-lt16
 returns-then-t-lt16 c = let old = c.args.self.now in record {

@@ -7,7 +7,7 @@ use Rattle.book.proofs.counts.calls.CountsBook.finish.Goals as goal
 pub invariant_of-self : goal.invariant_of-self
 invariant_of-self c =
     let old = c.args.self.now in
-    λ u d n e. let rise = risen_least (get_or c.args.cells.now d false) (get_or old.commits d 0) (get_or c.count_all.new.commits d 0) (c.count_all.ensures d) in omega (arith, old.ok u d n e)
+    record { ok = λ u d n e. let rise = risen_least (get_or c.args.cells.now d false) (get_or old.commits d 0) (get_or c.count_all.new.commits d 0) (c.count_all.ensures d) in omega (arith, old.ok u d n e) }
 
 pub returns-then-t-lt16 : goal.returns-then-t-lt16
 returns-then-t-lt16 c =

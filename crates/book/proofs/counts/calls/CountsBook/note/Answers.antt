@@ -7,7 +7,7 @@ use Rattle.book.proofs.counts.calls.CountsBook.note.Goals as goal
 pub invariant_of-self : goal.invariant_of-self
 invariant_of-self c =
     let old = c.args.self.now in
-    noting_first old.first old.commits c.note_first.new.firsts c.args.t c.args.c (omega arith) c.note_first.ensures old.ok
+    record { ok = noting_first old.first old.commits c.note_first.new.firsts c.args.t c.args.c (omega arith) c.note_first.ensures old.ok }
 
 pub returns-then-c-lt64 : goal.returns-then-c-lt64
 returns-then-c-lt64 c =
