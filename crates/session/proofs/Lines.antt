@@ -1,5 +1,5 @@
 -- The loop over a session's lines, until the line `(calls)`.
-use Rattle.std.proofs.Common.{◌≡◌, ℕ, ◌+◌, ◌-◌, ◌<◌, ◌≤◌, true, false, cond, List, [], ◌∷◌, length, take, drop, Some, None, codes, Option, sym, refl, ap, ◌∙◌, arith}
+use Rattle.std.proofs.Common.{◌≡◌, ℕ, ◌+◌, ◌-◌, ◌<◌, ◌≤◌, true, false, List, [], ◌∷◌, length, take, drop, Some, None, codes, ap, ◌∙◌, arith}
 use native.Mathlib.Nat.{sub-zero}
 use Rattle.std.specs.List.{prefix_len}
 use Rattle.std.specs.Str.{bytes_eq}
@@ -8,7 +8,6 @@ use Rattle.std.proofs.lemmas.List.{length-take-le}
 use Rattle.std.proofs.lemmas.Bool.{cond-true, cond-false}
 use Rattle.text.specs.Cut.{cut}
 use Rattle.text.proofs.Pieces.{other, cut_some, piece_first, piece_last}
-use Rattle.session.specs.declared.CallsLine.{CallsLine}
 use Rattle.session.specs.Input.{calls_from}
 
 here : (at k : ℕ) (l : List ℕ) (ps : List (List ℕ)) → 0 < length ps → bytes_eq l (codes "(calls)") ≡ true → calls_from at k (l ∷ ps) ≡ Some (record { at = at; line = k })
