@@ -21,7 +21,7 @@ module _ (counts : List ℕ) where
   -- of the first n tasks, each is owed as many more as the counts say
   abbrev pub deliver_one : List Row → ℕ → List Row
   deliver_one rs u =
-      slice_set rs u (row ((get_or rs u no_row).owed + slice_index counts u) (get_or rs u no_row).state (get_or rs u no_row).own_val)
+      slice_set rs u (row ((get_or rs u no_row).owed + slice_index counts u) (get_or rs u no_row).state (get_or rs u no_row).own)
 
   unfoldable pub delivered : List Row → ℕ → List Row
   delivered rs zero = rs

@@ -38,7 +38,7 @@ module _ (code : List (List Op)) (b : Board) (k : KeptBoard code b) where
   -- Rows: as many, with as many counts each, that stand well, and whoever owns a cell is inside still.
   pub rows_keep : (rs : List Row)
       → length rs ≡ 16
-      → ((t : ℕ) → t < 16 → length (get_or rs t no_row).own_val ≡ 16)
+      → ((t : ℕ) → t < 16 → length (get_or rs t no_row).own ≡ 16)
       → ((t : ℕ) → stands (length (ops_of code t)) (get_or rs t no_row).state ≡ true)
       → ((u c : ℕ) → mine u (owner b c) ≡ true → is_inside (state_at b u) ≡ true → is_inside (get_or rs u no_row).state ≡ true)
       → KeptBoard code (with_rows b rs)

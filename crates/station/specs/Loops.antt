@@ -18,7 +18,7 @@ overfull b t = any (λ u. nat_lt 255 ((row_at b u).owed + slice_index (row_at b 
 module _ (counts : List ℕ) where
   abbrev pub deliver_one : List Row → ℕ → List Row
   deliver_one rs u =
-      slice_set rs u (row ((get_or rs u no_row).owed + slice_index counts u) (get_or rs u no_row).state (get_or rs u no_row).own_val)
+      slice_set rs u (row ((get_or rs u no_row).owed + slice_index counts u) (get_or rs u no_row).state (get_or rs u no_row).own)
 
   unfoldable pub delivered : List Row → ℕ → List Row
   delivered rs zero = rs
