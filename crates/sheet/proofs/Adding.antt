@@ -1,12 +1,11 @@
 -- One item more: a cell, a constant, a task or an operation, in the arrays of a sheet and in its content.
-use Rattle.std.proofs.Common.{◌≡◌, ℕ, suc, ◌+◌, ◌<◌, ◌≤◌, Bool, true, false, cond, ◌&&◌, ltb, leb, List, [], ◌∷◌, ◌++◌, length, take, set, Some, Ok, Err, sum_by, Result, sym, refl, ap, ◌∙◌, ⊎_elim, arith}
+use Rattle.std.proofs.Common.{◌≡◌, ℕ, suc, ◌+◌, ◌<◌, ◌≤◌, true, false, ltb, List, [], ◌∷◌, ◌++◌, length, take, set, Some, Ok, sum_by, sym, refl, ap, ◌∙◌, arith}
 use Rattle.std.proofs.lemmas.List.{take_more_set, length-take-le, length_push}
-use Rattle.std.proofs.lemmas.Bool.{cond-true, cond-false, lt-ltb, le-ltb, le-leb, ltb-true, ltb-false, and_parts, and_cases}
+use Rattle.std.proofs.lemmas.Bool.{cond-true, lt-ltb, le-ltb, le-leb}
 use Rattle.program.specs.Code.{on_last}
 use Rattle.program.specs.declared.Op.{Op}
-use Rattle.sheet.specs.declared.parts.LineFault.TheVariants.{TooMany}
-use Rattle.sheet.specs.Content.{Content, with_cell, with_const, with_task, with_op}
-use Rattle.sheet.specs.Lines.{cell_on, const_on, task_on, op_on}
+use Rattle.sheet.specs.Content.{Content}
+use Rattle.sheet.specs.Lines.{task_on, op_on}
 
 pub room : {X : Type 0} (xs : List X) (n : ℕ) → n < 64 → length xs ≡ 64 → ltb (length (take n xs)) 64 ≡ true
 room xs n h l = lt-ltb _ 64 (omega (arith, length-take-le n xs (omega arith)))

@@ -1,10 +1,10 @@
 -- After the last line: one task or one operation on, and at the end.
-use Rattle.std.proofs.Common.{◌≡◌, ℕ, ◌+◌, ◌-◌, ◌<◌, ◌≤◌, Bool, true, false, cond, ◌&&◌, ltb, List, [], ◌∷◌, length, get_or, drop, Some, None, Option, sym, refl, ap, ◌∙◌, arith}
+use Rattle.std.proofs.Common.{◌≡◌, ℕ, ◌+◌, ◌<◌, ◌≤◌, true, false, List, [], length, get_or, drop, Some, None, ap, ◌∙◌}
 use Rattle.std.proofs.lemmas.List.{at_drop_more, at_drop_all}
-use Rattle.std.proofs.lemmas.Bool.{cond-true, cond-false, lt-ltb, le-ltb}
+use Rattle.std.proofs.lemmas.Bool.{cond-true, cond-false}
 use Rattle.program.specs.declared.Op.{Op}
 use Rattle.program.specs.declared.Op.TheVariants.{Finish}
-use Rattle.sheet.specs.Ends.{closes, closed, first_open, lands, stray_in, or_else, first_stray}
+use Rattle.sheet.specs.Ends.{closed, first_open, lands, stray_in, or_else, first_stray}
 
 pub open_here : (n : ℕ) (cs : List (List Op)) (t : ℕ) → t < length cs → closed (get_or cs t []) ≡ false → first_open n (drop t cs) ≡ Some n
 open_here n cs t h e = at_drop_more (first_open n) cs t [] h ∙ cond-false _ _ _ e

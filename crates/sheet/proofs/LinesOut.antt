@@ -4,7 +4,7 @@ use Rattle.std.specs.List.{flat_map}
 use Rattle.std.proofs.lemmas.Fmt.{length-decimal-le}
 use Rattle.std.proofs.lemmas.List.{length-append, take_all, take_more, flat_map_more}
 use Rattle.text.specs.Line.{added}
-use Rattle.text.proofs.Lines.{added_more, take_again}
+use Rattle.text.proofs.Lines.{added_more}
 use Rattle.sheet.specs.Writing.{line_end, spaced, op_words}
 
 pub formed_short : (o : Option (List ℕ)) → ((bs : List ℕ) → o ≡ Some bs → length bs ≤ 16) → length (unwrap_or o []) ≤ 16

@@ -1,6 +1,6 @@
 -- Output that bytes are laid over: one byte more, one text after another, and where all fits.
-use Rattle.std.proofs.Common.{◌≡◌, ℕ, zero, suc, ◌+◌, ◌<◌, ◌≤◌, List, [], ◌∷◌, ◌++◌, length, get_or, take, drop, set, sym, refl, ap, ◌∙◌, add-zero, add_assoc, add-one, one-add, arith}
-use Rattle.std.proofs.lemmas.List.{take_more, set_past, length-set, length-take-le, set_split, drop-set-lt}
+use Rattle.std.proofs.Common.{◌≡◌, ℕ, suc, ◌+◌, ◌<◌, ◌≤◌, List, [], ◌∷◌, ◌++◌, length, get_or, take, drop, set, sym, refl, ap, ◌∙◌, add-zero, add-one, arith}
+use Rattle.std.proofs.lemmas.List.{take_more, set_past, length-set, length-take-le}
 use Rattle.sheet.specs.Output.{over}
 
 pub over_append : (at : ℕ) (a b out : List ℕ) → over at (a ++ b) out ≡ over (at + length a) b (over at a out)

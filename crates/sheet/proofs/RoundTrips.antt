@@ -1,14 +1,14 @@
 -- The round trips, as the answers of reading and writing have them.
-use Rattle.std.proofs.Common.{◌≡◌, ℕ, Bool, true, false, cond, ◌&&◌, leb, List, ◌++◌, length, take, drop, IfOk, Ok, Err, Option, Result, sym, refl, ap, ◌∙◌, subst, ⊎_elim, arith, MatchResult}
+use Rattle.std.proofs.Common.{◌≡◌, ℕ, Bool, true, false, leb, List, ◌++◌, length, take, drop, IfOk, Ok, Err, Option, Result, sym, refl, ap, ◌∙◌, arith, MatchResult}
 use Rattle.std.proofs.lemmas.List.{take_at}
-use Rattle.std.proofs.lemmas.Bool.{cond-true, cond-false, and_from, cases_Bool}
+use Rattle.std.proofs.lemmas.Bool.{cond-true, cond-false, and_from}
 use Rattle.text.specs.Tokens.{Tok}
 use Rattle.value.specs.declared.codes.Fault.{Fault}
 use Rattle.sheet.specs.declared.kept.Sheet.{Sheet}
 use Rattle.sheet.specs.declared.parts.Refusal.{Refusal}
 use Rattle.sheet.specs.declared.parts.Refusal.TheVariants.{Unlawful, OutputShort}
 use Rattle.sheet.specs.Content.{Content}
-use Rattle.sheet.specs.Laws.{Sound, WritesBack, ReadsBack}
+use Rattle.sheet.specs.Laws.{WritesBack, ReadsBack}
 use Rattle.sheet.specs.Reading.{read_text}
 use Rattle.sheet.specs.Sheets.{content}
 use Rattle.sheet.specs.Writing.{lawful, written, write_answer, write_out}

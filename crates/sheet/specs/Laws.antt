@@ -1,5 +1,5 @@
 -- The two ways between bytes and sheets, for every kind of value.
-use Rattle.std.specs.Prelude.{◌≡◌, ℕ, ◌≤◌, Bool, true, false, ◌&&◌, List, length, None, Ok, sum_by, Option, Result, nat_lt}
+use Rattle.std.specs.Prelude.{◌≡◌, ℕ, ◌≤◌, Bool, true, ◌&&◌, List, length, None, Ok, sum_by, Option, Result, nat_lt}
 use Rattle.std.specs.List.{AllByRecursion as All}
 use Rattle.text.specs.Tokens.{Tok}
 use Rattle.value.specs.declared.codes.Fault.{Fault}

@@ -1,5 +1,5 @@
 -- One line of a sheet: what it adds, or why it is refused. Its form and its order come first, then bounds, then room.
-use Rattle.std.specs.Prelude.{ℕ, Bool, cond, ◌&&◌, List, [], ◌∷◌, length, Some, None, Ok, Err, codes, sum_by, Option, Result, ◌==◌, nat_le, nat_lt, slice_index}
+use Rattle.std.specs.Prelude.{ℕ, cond, ◌&&◌, List, [], ◌∷◌, length, Some, None, Ok, Err, codes, sum_by, Option, Result, ◌==◌, nat_le, nat_lt, slice_index}
 use Rattle.text.specs.Cut.{cut}
 use Rattle.text.specs.Frame.{framed}
 use Rattle.text.specs.Number.{numeral}

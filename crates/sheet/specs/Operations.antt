@@ -1,5 +1,5 @@
 -- The thirteen operations on a sheet: a letter, and numbers after single spaces.
-use Rattle.std.specs.Prelude.{ℕ, ◌-◌, min, Bool, true, false, cond, ◌&&◌, List, [], ◌∷◌, length, Some, None, Ok, Err, Option, Result, ◌==◌, nat_le, nat_lt, slice_index}
+use Rattle.std.specs.Prelude.{ℕ, min, Bool, cond, ◌&&◌, List, [], ◌∷◌, length, Some, None, Ok, Err, Option, Result, ◌==◌, nat_le, nat_lt, slice_index}
 use Rattle.value.specs.Codes.{operation_number, operation_at}
 use Rattle.value.specs.declared.codes.Fault.{Fault}
 use Rattle.value.specs.declared.codes.Fault.TheVariants.{Form, Bound}

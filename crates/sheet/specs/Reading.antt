@@ -3,7 +3,6 @@ use Rattle.std.specs.Prelude.{ℕ, ◌+◌, cond, List, [], ◌∷◌, length, S
 use Rattle.text.specs.Cut.{cut}
 use Rattle.text.specs.Tokens.{Tok}
 use Rattle.value.specs.declared.codes.Fault.{Fault}
-use Rattle.sheet.specs.declared.parts.LineFault.{LineFault}
 use Rattle.sheet.specs.declared.parts.LineFault.TheVariants.{BadForm}
 use Rattle.sheet.specs.declared.parts.Refusal.{Refusal}
 use Rattle.sheet.specs.declared.parts.Refusal.TheVariants.{TooLong, Line, OpenTask, StrayTarget}

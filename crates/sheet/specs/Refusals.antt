@@ -1,6 +1,5 @@
 -- What each refusal tells: its number, its layer, two places and a cause. Layer 1 is the sheet, layer 2 the station.
 use Rattle.std.specs.Prelude.{ℕ, List, ◌++◌, codes, decimal}
-use Rattle.sheet.specs.declared.parts.LineFault.{LineFault}
 use Rattle.sheet.specs.declared.parts.LineFault.TheVariants.{BadForm, PastBound, TooMany}
 use Rattle.sheet.specs.declared.parts.Notice.{Notice}
 use Rattle.sheet.specs.declared.parts.Refusal.{Refusal}

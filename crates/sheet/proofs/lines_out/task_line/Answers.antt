@@ -1,4 +1,4 @@
-use Rattle.std.proofs.Common.{decimal, sym, ap, ◌∙◌, arith}
+use Rattle.std.proofs.Common.{decimal, ap, ◌∙◌, arith}
 use Rattle.std.proofs.lemmas.Fmt.{length-decimal-le}
 use Rattle.text.specs.Line.{spelt, added}
 use Rattle.sheet.specs.Lines.{task_head}

@@ -1,4 +1,4 @@
-use Rattle.std.proofs.Common.{[], unwrap_or, sym, ap, ◌∙◌, arith}
+use Rattle.std.proofs.Common.{[], unwrap_or, ap, ◌∙◌, arith}
 use Rattle.text.specs.Line.{spelt, added}
 use Rattle.sheet.specs.Writing.{line_end}
 use Rattle.sheet.proofs.LinesOut.{formed_short, three}

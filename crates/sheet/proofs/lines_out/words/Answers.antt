@@ -1,8 +1,7 @@
-use Rattle.std.proofs.Common.{[], ◌∷◌, take, decimal, sym, refl, ap, ◌∙◌, arith}
+use Rattle.std.proofs.Common.{[], ◌∷◌, decimal, ap, ◌∙◌, arith}
 use Rattle.std.specs.List.{flat_map}
 use Rattle.std.proofs.lemmas.List.{take_all}
 use Rattle.text.specs.Line.{spelt, added}
-use Rattle.text.proofs.Lines.{added_more}
 use Rattle.sheet.specs.Writing.{spaced}
 use Rattle.sheet.proofs.LinesOut.{spaced_more, words_short}
 use Rattle.sheet.proofs.lines_out.words.Goals as goal

@@ -1,4 +1,4 @@
-use Rattle.std.proofs.Common.{◌+◌, length, take, sym, ap, ◌∙◌, arith}
+use Rattle.std.proofs.Common.{◌+◌, length, ap, ◌∙◌, arith}
 use Rattle.std.proofs.lemmas.List.{take_all, length-take-le}
 use Rattle.sheet.specs.Output.{over}
 use Rattle.sheet.proofs.Overlaid.{byte_put, byte_past}

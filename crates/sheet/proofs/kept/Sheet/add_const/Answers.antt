@@ -1,4 +1,4 @@
-use Rattle.std.proofs.Common.{take, Ok, ap, ◌∙◌}
+use Rattle.std.proofs.Common.{Ok, ap, ◌∙◌}
 use Rattle.std.proofs.lemmas.Bool.{cond-true}
 use Rattle.sheet.specs.Sheets.{content}
 use Rattle.sheet.proofs.Adding.{room, one_more}

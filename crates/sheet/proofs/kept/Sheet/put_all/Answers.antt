@@ -1,6 +1,5 @@
-use Rattle.std.proofs.Common.{◌≡◌, ◌+◌, length, take, sym, ap, ◌∙◌, arith}
+use Rattle.std.proofs.Common.{◌+◌, length, ap, ◌∙◌, arith}
 use Rattle.std.specs.List.{flat_map}
-use Rattle.program.specs.Program.{code}
 use Rattle.sheet.specs.Output.{over}
 use Rattle.sheet.specs.Sheets.{content}
 use Rattle.sheet.specs.Writing.{cell_text, const_text, tasks_text}

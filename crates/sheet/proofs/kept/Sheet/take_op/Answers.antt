@@ -6,7 +6,7 @@ use Rattle.sheet.proofs.kept.Sheet.take_op.Goals as goal
 
 pub returns-in_err-op : goal.returns-in_err-op
 returns-in_err-op g c =
-    let p = err_from_is_err_and c.from-residual.result c.from-residual.ensures.1 in
+    let p = err_from_is_err_and c.from_residual.result c.from_residual.ensures.1 in
     rw (p.1, p.2) (op_refused (content c.args.self.now) c.args.line.now (λ z. c.if-tasks-eq0.false (c.tasks.ensures.value ∙ z)) _ (sym c.in_err-op.ensures))
 
 pub returns : goal.returns

@@ -1,4 +1,4 @@
-use Rattle.std.proofs.Common.{◌≡◌, ◌+◌, ◌<◌, length, drop, sym, ap, ◌∙◌, arith}
+use Rattle.std.proofs.Common.{◌+◌, ◌<◌, length, drop, sym, ap, ◌∙◌, arith}
 use Rattle.program.specs.Program.{code}
 use Rattle.sheet.specs.Ends.{first_open}
 use Rattle.sheet.proofs.Ending.{open_here, open_next, open_none}

@@ -1,4 +1,4 @@
-use Rattle.std.proofs.Common.{◌≡◌, ◌+◌, ◌<◌, true, false, [], length, get_or, drop, sym, ap, ◌∙◌, add_assoc, arith}
+use Rattle.std.proofs.Common.{◌+◌, ◌<◌, [], length, get_or, drop, sym, ap, ◌∙◌, add_assoc, arith}
 use Rattle.program.specs.Program.{code}
 use Rattle.sheet.specs.Ends.{stray_in, lands}
 use Rattle.sheet.proofs.Ending.{stray_here, stray_on, stray_none}

@@ -1,4 +1,4 @@
-use Rattle.std.proofs.Common.{◌≡◌, ◌+◌, [], length, get_or, drop}
+use Rattle.std.proofs.Common.{◌≡◌, ◌+◌, [], get_or, drop}
 use Rattle.program.specs.Program.{code}
 use Rattle.sheet.specs.Ends.{stray_in}
 use Rattle.sheet.proofs.kept.ends.stray_op.Given as goal

@@ -1,4 +1,4 @@
-use Rattle.std.proofs.Common.{◌≡◌, ◌+◌, ◌<◌, [], length, get_or, drop, sym, ap, ◌∙◌, arith}
+use Rattle.std.proofs.Common.{◌+◌, ◌<◌, [], length, get_or, drop, sym, ap, ◌∙◌, arith}
 use Rattle.program.specs.Program.{code}
 use Rattle.sheet.specs.Ends.{stray_in, first_stray}
 use Rattle.sheet.proofs.Ending.{found, passed, strays_none}
