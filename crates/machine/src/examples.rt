@@ -12,7 +12,8 @@ pub fn table_stands() -> u8
 
 // A task takes a cell over, as a driver: the events of both orders, computed.
 pub fn handover_ends() -> u8
-    ensures { (Taken) × (Added) }
+    ensures taken { Taken }
+    ensures added { Added }
 {
     0
 }
