@@ -3,7 +3,7 @@ use Rattle.std.specs.Prelude.{ℕ, Bool, true, false, Some, None, Option}
 use Rattle.program.specs.declared.Mode.{Mode}
 use Rattle.book.specs.Seen.{Seen}
 use Rattle.machine.specs.Effect.{Local}
-use Rattle.machine.specs.Strong.{Phase, idle, ready, active, outside, State}
+use Rattle.machine.specs.Strong.{Phase, idle, ready, outside, State}
 
 -- Where a task is; of a transaction also where it opened.
 pub data Stage (V : Type 0) : Type 0 where

@@ -1,14 +1,14 @@
 -- What an accepted call does to the engine's state, and how the undone state moves.
 use Rattle.std.specs.Prelude.{◌≡◌, ℕ, suc, ◌+◌, Bool, true, false, cond, Some, None, Option, ◌==◌}
 use Rattle.program.specs.declared.Mode.{Mode}
-use Rattle.program.specs.declared.Mode.TheVariants.{Protected, Unprotected}
+use Rattle.program.specs.declared.Mode.TheVariants.{Protected}
 use Rattle.book.specs.Seen.{Seen, begun, noting, finished, rested, a_task, a_cell}
 use Rattle.machine.specs.Update.{upd, one_more}
 use Rattle.machine.specs.Effect.{Meaning, Program, Local, next, loaded, goes, reads, writes, starts, leaves, enters, sets, finishes, asked}
-use Rattle.machine.specs.Strong.{Phase, idle, outside, State, Event, first, given, event}
+use Rattle.machine.specs.Strong.{idle, outside, State, Event, first, given, event}
 use Rattle.machine.specs.Fragment.{Footprint, after, Alone}
 use Rattle.board.specs.Boards.{mine, another}
-use Rattle.model.specs.Model.{Stage, off, waiting, inside, out, Model, is_inside, undone}
+use Rattle.model.specs.Model.{Stage, off, waiting, inside, out, Model, is_inside}
 
 abbrev pub held : Option ℕ → Bool
 held None = false
