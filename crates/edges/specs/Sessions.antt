@@ -1,5 +1,5 @@
 -- Sessions of the engine, played by its definitions over whole numbers and a book that always has 255 left.
-use Rattle.std.specs.Prelude.{ℕ, ◌-◌, List, [], ◌∷◌, ◌++◌, replicate, pos, None, Ok, Err, codes, Result, slice_index_or}
+use Rattle.std.specs.Prelude.{ℕ, ◌-◌, List, [], ◌∷◌, ◌++◌, replicate, Ok, Err, codes, Result, slice_index_or}
 use Rattle.value.specs.declared.wholes.Whole.{Whole}
 use Rattle.value.specs.Wholes.{whole_zero, whole_truth, whole_outcome, whole_reads}
 use Rattle.machine.specs.Effect.{Meaning, meaning}
