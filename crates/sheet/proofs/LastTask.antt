@@ -1,6 +1,6 @@
 -- One operation more of the last task, and one task more: what holds of all, how many there are, and their text.
 use Rattle.std.proofs.Common.{◌≡◌, ℕ, ◌+◌, ◌<◌, ◌≤◌, List, [], ◌∷◌, ◌++◌, length, sum_by, sym, refl, ap, ◌∙◌, append_assoc, append-nil, arith}
-use Rattle.std.specs.List.{flat_map, AllByRecursion as All}
+use Rattle.std.specs.List.{flat_map, AllByRecursion}
 use Rattle.std.proofs.lemmas.List.{length_push, flat_map_more, nil_from_length}
 use Rattle.std.proofs.ByRecursion.{All-push}
 use Rattle.std.proofs.lemmas.List.Sums.{sum_by-cons}
@@ -8,26 +8,26 @@ use Rattle.program.specs.Code.{on_last}
 use Rattle.program.specs.declared.Op.{Op}
 use Rattle.sheet.specs.Writing.{task_text, op_text, tasks_text}
 
-pub all_front : {X : Type 0} (P : X → Type 0) (xs ys : List X) → All P (xs ++ ys) → All P xs
+pub all_front : {X : Type 0} (P : X → Type 0) (xs ys : List X) → AllByRecursion P (xs ++ ys) → AllByRecursion P xs
 all_front P [] ys h = tt
 all_front P (x ∷ xs) ys h = (h.0, all_front P xs ys h.1)
 
-pub all_back : {X : Type 0} (P : X → Type 0) (xs ys : List X) → All P (xs ++ ys) → All P ys
+pub all_back : {X : Type 0} (P : X → Type 0) (xs ys : List X) → AllByRecursion P (xs ++ ys) → AllByRecursion P ys
 all_back P [] ys h = h
 all_back P (x ∷ xs) ys h = all_back P xs ys h.1
 
 module _ {X : Type 0} (P : X → Type 0) where
-  pub all_on_last : (cs : List (List X)) (x : X) → All (All P) cs → P x → All (All P) (on_last cs x)
+  pub all_on_last : (cs : List (List X)) (x : X) → AllByRecursion (AllByRecursion P) cs → P x → AllByRecursion (AllByRecursion P) (on_last cs x)
   all_on_last [] x h p = tt
   all_on_last (c ∷ []) x h p = (All-push P c x h.0 p, tt)
   all_on_last (c ∷ d ∷ ds) x h p = (h.0, all_on_last (d ∷ ds) x h.1 p)
 
-  pub all_but_last : (cs : List (List X)) (x : X) → All (All P) (on_last cs x) → All (All P) cs
+  pub all_but_last : (cs : List (List X)) (x : X) → AllByRecursion (AllByRecursion P) (on_last cs x) → AllByRecursion (AllByRecursion P) cs
   all_but_last [] x h = tt
   all_but_last (c ∷ []) x h = (all_front P c (x ∷ []) h.0, tt)
   all_but_last (c ∷ d ∷ ds) x h = (h.0, all_but_last (d ∷ ds) x h.1)
 
-  pub holds_of_last : (cs : List (List X)) (x : X) → 0 < length cs → All (All P) (on_last cs x) → P x
+  pub holds_of_last : (cs : List (List X)) (x : X) → 0 < length cs → AllByRecursion (AllByRecursion P) (on_last cs x) → P x
   holds_of_last [] x some h = absurd (omega arith)
   holds_of_last (c ∷ []) x some h = (all_back P c (x ∷ []) h.0).0
   holds_of_last (c ∷ d ∷ ds) x some h = holds_of_last (d ∷ ds) x (omega arith) h.1

@@ -1,6 +1,6 @@
 -- How long a sheet is at most: its cells, constants, tasks and operations are few, and the line of each is short.
 use Rattle.std.proofs.Common.{◌≡◌, ℕ, ◌+◌, ◌*◌, ◌≤◌, true, List, [], ◌∷◌, ◌++◌, length, Some, None, decimal, sum_by, Option, Result, unwrap_or, refl, mul-suc, arith, lit<, lit≤}
-use Rattle.std.specs.List.{flat_map, AllByRecursion as All}
+use Rattle.std.specs.List.{flat_map, AllByRecursion}
 use Rattle.std.proofs.lemmas.List.{length-append}
 use Rattle.std.proofs.lemmas.List.Sums.{sum_by-cons}
 use Rattle.text.specs.Tokens.{Tok}
@@ -18,15 +18,15 @@ use Rattle.sheet.proofs.Numbers.{decimal-short}
 use Rattle.sheet.proofs.OpLetters.{Whole, Low, low-numbers, few-numbers}
 use Rattle.sheet.proofs.Places.{LawfulKind}
 
-all_of : {X : Type 0} (P : X → Type 0) → ((x : X) → P x) → (xs : List X) → All P xs
+all_of : {X : Type 0} (P : X → Type 0) → ((x : X) → P x) → (xs : List X) → AllByRecursion P xs
 all_of P h [] = tt
 all_of P h (x ∷ xs) = (h x, all_of P h xs)
 
-joined_short : {X : Type 0} (f : X → List ℕ) (k : ℕ) (xs : List X) → All (λ x. length (f x) ≤ k) xs → length (flat_map f xs) ≤ k * length xs
+joined_short : {X : Type 0} (f : X → List ℕ) (k : ℕ) (xs : List X) → AllByRecursion (λ x. length (f x) ≤ k) xs → length (flat_map f xs) ≤ k * length xs
 joined_short f k [] h = omega arith
 joined_short f k (x ∷ xs) h = rw (length-append, mul-suc) (omega (arith, h.0, joined_short f k xs h.1))
 
-spaced-short : (ns : List ℕ) → Low ns → All (λ n. length (spaced n) ≤ 6) ns
+spaced-short : (ns : List ℕ) → Low ns → AllByRecursion (λ n. length (spaced n) ≤ 6) ns
 spaced-short [] h = tt
 spaced-short (n ∷ ns) h = (omega (arith, decimal-short 5 n (lit< tt) h.0 (omega (arith, h.0))), spaced-short ns h.1)
 
@@ -38,11 +38,11 @@ task-short : (n : ℕ) → n ≤ 255 → length (task_text n) ≤ 11
 task-short n h = omega (arith, length-append (decimal n) line_end, decimal-short 3 n (lit< tt) (omega arith) (omega arith))
 
 module _ (cells consts : ℕ) (few_cells : cells ≤ 64) (few_consts : consts ≤ 64) where
-  ops_short : (ops : List Op) → All (λ op. given cells consts op ≡ true) ops → All Whole ops → All (λ op. length (op_text op) ≤ 28) ops
+  ops_short : (ops : List Op) → AllByRecursion (λ op. given cells consts op ≡ true) ops → AllByRecursion Whole ops → AllByRecursion (λ op. length (op_text op) ≤ 28) ops
   ops_short [] g w = tt
   ops_short (op ∷ ops) g w = (op_short op (low-numbers cells consts few_cells few_consts op g.0 w.0), ops_short ops g.1 w.1)
 
-  tasks-short : (os : List ℕ) (cs : List (List Op)) → All (λ n. n ≤ 255) os → All (All (λ op. given cells consts op ≡ true)) cs → All (All Whole) cs → length (tasks_text os cs) ≤ 11 * length cs + 28 * sum_by length cs
+  tasks-short : (os : List ℕ) (cs : List (List Op)) → AllByRecursion (λ n. n ≤ 255) os → AllByRecursion (AllByRecursion (λ op. given cells consts op ≡ true)) cs → AllByRecursion (AllByRecursion Whole) cs → length (tasks_text os cs) ≤ 11 * length cs + 28 * sum_by length cs
   tasks-short [] cs o g w = omega arith
   tasks-short (n ∷ os) [] o g w = omega arith
   tasks-short (n ∷ os) (c ∷ cs) o g w =
@@ -64,7 +64,7 @@ module _ {V : Type 0} {form : V → Option (List ℕ)} {reads : List Tok → Res
   const_short : (v : V) → length (const_text form v) ≤ 25
   const_short v = omega (arith, length-append (unwrap_or (form v) []) line_end, place_short v (form v) refl)
 
-  pub written-short : (s : Content V) → Sound s → All (All Whole) s.code → length (written form s) ≤ 65536
+  pub written-short : (s : Content V) → Sound s → AllByRecursion (AllByRecursion Whole) s.code → length (written form s) ≤ 65536
   written-short s h w =
       omega (
         arith,

@@ -1,6 +1,6 @@
 -- One line: a sheet that takes it stays within its limits, and is written as before with that line at the end.
 use Rattle.std.proofs.Common.{◌≡◌, ℕ, ◌<◌, ◌≤◌, Bool, true, ◌&&◌, eqb, ltb, leb, List, [], ◌∷◌, ◌++◌, length, is_some, Some, None, Ok, Err, decimal, sum_by, Option, Result, unwrap_or, sym, refl, ap, ◌∙◌, subst, append_assoc, append-nil, arith}
-use Rattle.std.specs.List.{flat_map, AllByRecursion as All}
+use Rattle.std.specs.List.{flat_map, AllByRecursion}
 use Rattle.std.proofs.ByRecursion.{All-push}
 use Rattle.std.proofs.lemmas.List.{length_push, flat_map_more, nil_from_length}
 use Rattle.std.proofs.lemmas.List.Sums.{sum_by_push}
@@ -26,8 +26,8 @@ use Rattle.sheet.proofs.OpTexts.{OpRead, op_read}
 use Rattle.sheet.proofs.LastTask.{all_front, all_on_last, all_but_last, holds_of_last, length-on_last, sum-on_last, no_tasks_text, task_more_text, op_more_text}
 use Rattle.sheet.proofs.Places.{LawfulKind, form_read}
 
-all_none : {X : Type 0} (P : X → Type 0) (xs : List X) → xs ≡ [] → All P xs
-all_none P xs e = subst (λ l. All P l) (sym e) tt
+all_none : {X : Type 0} (P : X → Type 0) (xs : List X) → xs ≡ [] → AllByRecursion P xs
+all_none P xs e = subst (λ l. AllByRecursion P l) (sym e) tt
 
 every_push : {X : Type 0} (p : X → Bool) (xs : List X) (x : X) → every p xs ≡ true → p x ≡ true → every p (xs ++ (x ∷ [])) ≡ true
 every_push p [] x h e = and_from _ _ e refl
@@ -41,16 +41,16 @@ module _ {V : Type 0} (form : V → Option (List ℕ)) where
     pub few_tasks : length s.code ≤ 16
     pub few_ops : sum_by length s.code ≤ 1024
     pub owed_each : length s.owed ≡ length s.code
-    pub owed_small : All (λ n. n ≤ 255) s.owed
-    pub ops_given : All (All (λ op. given (length s.cells) (length s.consts) op ≡ true)) s.code
+    pub owed_small : AllByRecursion (λ n. n ≤ 255) s.owed
+    pub ops_given : AllByRecursion (AllByRecursion (λ op. given (length s.cells) (length s.consts) op ≡ true)) s.code
     pub cells-lawful : every (λ c. is_some (form c.value)) s.cells ≡ true
     pub consts-lawful : every (λ v. is_some (form v)) s.consts ≡ true
 
   -- u is s with the line l. The text is told where no operation of u was cut down.
   pub record Added (s : Content V) (l : List ℕ) (u : Content V) : Type 0 where
     pub keeps : Kept s → Kept u
-    pub less : All (All Whole) u.code → All (All Whole) s.code
-    pub text : Kept s → All (All Whole) u.code → written form u ≡ written form s ++ (l ++ (10 ∷ []))
+    pub less : AllByRecursion (AllByRecursion Whole) u.code → AllByRecursion (AllByRecursion Whole) s.code
+    pub text : Kept s → AllByRecursion (AllByRecursion Whole) u.code → written form u ≡ written form s ++ (l ++ (10 ∷ []))
 
   cell-added : (s : Content V) (m : Mode) (v : V) (place : List ℕ) → s.consts ≡ [] → s.code ≡ [] → length s.cells < 64 → form v ≡ Some place → Added s (cell_head m ++ (place ++ (41 ∷ []))) (with_cell s m v)
   cell-added s m v place no-consts no_code room f =
@@ -119,7 +119,7 @@ module _ {V : Type 0} (form : V → Option (List ℕ)) where
           cells-lawful = k.cells-lawful;
           consts-lawful = k.consts-lawful;
         };
-        less = λ h. all_front (All Whole) s.code ([] ∷ []) h;
+        less = λ h. all_front (AllByRecursion Whole) s.code ([] ∷ []) h;
         text = λ k h. tasks_more s (tasks_text (s.owed ++ (n ∷ [])) (s.code ++ ([] ∷ []))) _ (task_more_text s.owed s.code n k.owed_each ∙ ap (λ l. tasks_text s.owed s.code ++ l) (framed-text task_head (decimal n) ∙ ap (λ p. (task_head ++ (p ++ (41 ∷ []))) ++ (10 ∷ [])) (sym is)));
       }
 

@@ -1,6 +1,6 @@
 -- Operations by their letters and numbers: each is read from its own, and from no others unless a number was cut down.
 use Rattle.std.proofs.Common.{◌≡◌, ℕ, ◌<◌, ◌≤◌, min, Bool, true, false, cond, eqb, ltb, List, [], ◌∷◌, length, Some, None, Ok, Option, Result, sym, refl, ap, ◌∙◌, subst, arith, lit<, lit≤}
-use Rattle.std.specs.List.{AllByRecursion as All}
+use Rattle.std.specs.List.{AllByRecursion}
 use Rattle.std.proofs.lemmas.Bool.{cond-true, and_parts, eqb-true, ltb-true, leb-true}
 use Rattle.std.proofs.lemmas.Bool.Decides.{nat_tests}
 use Rattle.value.specs.Codes.{operation_number, operation_at}
@@ -160,7 +160,7 @@ whole_from_lands len tasks a b (Unprotect c) h = tt
 
 -- numbers of five digits at most
 abbrev pub Low : List ℕ → Type 0
-Low ns = All (λ n. n < 100000) ns
+Low ns = AllByRecursion (λ n. n < 100000) ns
 
 operation_number-low : (o : Operation) → operation_number o < 100000
 operation_number-low Sum = lit< tt

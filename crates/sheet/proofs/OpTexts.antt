@@ -1,6 +1,6 @@
 -- An operation's line: what is read of it is the operation that writes it.
 use Rattle.std.proofs.Common.{◌≡◌, ℕ, ◌≤◌, Bool, true, false, cond, eqb, List, [], ◌∷◌, ◌++◌, map, length, get_or, Some, None, Ok, Err, codes, decimal, Option, sym, refl, ap, ◌∙◌, append_assoc, arith, lit<, lit≤}
-use Rattle.std.specs.List.{flat_map, AllByRecursion as All}
+use Rattle.std.specs.List.{flat_map, AllByRecursion}
 use Rattle.std.proofs.lemmas.Bool.{eqb-true}
 use Rattle.value.specs.declared.codes.Fault.TheVariants.{Form}
 use Rattle.program.specs.declared.Op.{Op}
@@ -93,7 +93,7 @@ spaced_pieces : (ns : List ℕ) → flat_map (λ q. 32 ∷ q) (map decimal ns) �
 spaced_pieces [] = refl
 spaced_pieces (n ∷ ns) = ap (λ l. spaced n ++ l) (spaced_pieces ns)
 
-no_spaces : (ns : List ℕ) → Low ns → All (Without 32) (map decimal ns)
+no_spaces : (ns : List ℕ) → Low ns → AllByRecursion (Without 32) (map decimal ns)
 no_spaces [] h = tt
 no_spaces (n ∷ ns) h = (decimal_without 32 (lit< tt) n (omega (arith, h.0)), no_spaces ns h.1)
 

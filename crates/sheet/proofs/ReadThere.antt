@@ -1,6 +1,6 @@
 -- All lines: what is read is sound, may be written, and writes back to the same bytes.
 use Rattle.std.proofs.Common.{◌≡◌, ℕ, ◌+◌, eqb, ltb, List, [], ◌∷◌, ◌++◌, length, Some, None, Ok, Err, Option, Result, sym, refl, ap, ◌∙◌, subst, append_assoc, append-nil, arith, lit≤}
-use Rattle.std.specs.List.{AllByRecursion as All}
+use Rattle.std.specs.List.{AllByRecursion}
 use Rattle.std.proofs.lemmas.List.{nil_from_length}
 use Rattle.std.proofs.lemmas.Bool.{and_from, eqb-true}
 use Rattle.text.specs.Cut.{cut}
@@ -41,8 +41,8 @@ module _ {V : Type 0} (form : V → Option (List ℕ)) where
   record Went (s : Content V) (ls : List (List ℕ)) (w : Content V) : Type 0 where
     kept : Kept form w
     ends : Settled w
-    less : All (All Whole) w.code → All (All Whole) s.code
-    text : All (All Whole) w.code → written form w ≡ written form s ++ rejoined 10 ls
+    less : AllByRecursion (AllByRecursion Whole) w.code → AllByRecursion (AllByRecursion Whole) s.code
+    text : AllByRecursion (AllByRecursion Whole) w.code → written form w ≡ written form s ++ rejoined 10 ls
 
   went_none : (s w : Content V) (ls : List (List ℕ)) → Kept form s → rejoined 10 ls ≡ [] → settled s ≡ Ok w → Went s ls w
   went_none s w ls k none e =
@@ -81,7 +81,7 @@ module _ {V : Type 0} (form : V → Option (List ℕ)) (reads : List Tok → Res
       let p = failed (ltb 65536 (length bs)) (read_lines reads 1 nothing (cut 10 bs)) TooLong s e in
       let r = lines_read (cut 10 bs) 1 nothing s kept-nothing p.1 in
       let k : Kept form s = r.kept in
-      let whole : All (All Whole) s.code = all_whole (length s.code) (first_task s) k.few_tasks s.code k.few_ops r.ends.jumps_land in (
+      let whole : AllByRecursion (AllByRecursion Whole) s.code = all_whole (length s.code) (first_task s) k.few_tasks s.code k.few_ops r.ends.jumps_land in (
         record {
           few_cells = k.few_cells;
           few_consts = k.few_consts;

@@ -1,6 +1,6 @@
 -- Pieces between the bytes d: put together again they are the bytes, and a piece in front is cut off.
 use Rattle.std.proofs.Common.{◌≡◌, ℕ, ◌<◌, Bool, true, not, ◌&&◌, eqb, List, [], ◌∷◌, ◌++◌, length, sym, refl, ap, ◌∙◌, ⊎_elim, append-nil, arith}
-use Rattle.std.specs.List.{flat_map, AllByRecursion as All}
+use Rattle.std.specs.List.{flat_map, AllByRecursion}
 use Rattle.std.proofs.lemmas.Bool.{cond-true, cond-false, eqb-true, eqb-false, eq-eqb, ne_eqb, cases_Bool, and_parts, not-true}
 use Rattle.text.specs.Cut.{onto, cut}
 
@@ -41,7 +41,7 @@ rejoined_cut d (b ∷ bs) =
 
 -- no byte is d
 abbrev pub Without : ℕ → List ℕ → Type 0
-Without d bs = All (λ b. b ≡ d → ⊥) bs
+Without d bs = AllByRecursion (λ b. b ≡ d → ⊥) bs
 
 pub cut_front : (d : ℕ) (p bs : List ℕ) → Without d p → cut d (p ++ (d ∷ bs)) ≡ p ∷ cut d bs
 cut_front d [] bs h = cond-true (eqb d d) ([] ∷ cut d bs) (onto d (cut d bs)) (eq-eqb d d refl)
@@ -53,7 +53,7 @@ cut_last d [] h = refl
 cut_last d (b ∷ p) h = cond-false (eqb b d) ([] ∷ cut d p) (onto b (cut d p)) (ne_eqb b d h.0) ∙ ap (onto b) (cut_last d p h.1)
 
 -- pieces that have no d are cut apart again
-pub cut_rejoined : (d : ℕ) (p : List ℕ) (ps : List (List ℕ)) → Without d p → All (Without d) ps → cut d (rejoined d (p ∷ ps)) ≡ p ∷ ps
+pub cut_rejoined : (d : ℕ) (p : List ℕ) (ps : List (List ℕ)) → Without d p → AllByRecursion (Without d) ps → cut d (rejoined d (p ∷ ps)) ≡ p ∷ ps
 cut_rejoined d p [] h hs = ap (cut d) (append-nil p) ∙ cut_last d p h
 cut_rejoined d p (q ∷ ps) h hs = cut_front d p (rejoined d (q ∷ ps)) h ∙ ap (λ l. p ∷ l) (cut_rejoined d q ps hs.0 hs.1)
 

@@ -1,6 +1,6 @@
 -- All lines: what is written of a sound sheet is read as the same sheet.
 use Rattle.std.proofs.Common.{◌≡◌, ℕ, ◌+◌, ◌<◌, ◌≤◌, true, ltb, List, [], ◌∷◌, ◌++◌, length, is_some, Some, None, Ok, Err, decimal, sum_by, Option, Result, unwrap_or, sym, refl, ap, ◌∙◌, append_assoc, append-nil, arith, lit<}
-use Rattle.std.specs.List.{flat_map, AllByRecursion as All}
+use Rattle.std.specs.List.{flat_map, AllByRecursion}
 use Rattle.std.proofs.lemmas.List.{length_push}
 use Rattle.std.proofs.lemmas.List.Sums.{sum_by_push, sum_by-cons}
 use Rattle.std.proofs.lemmas.Bool.{cond-false, and_parts, le-ltb}
@@ -67,7 +67,7 @@ module _ {V : Type 0} (form : V → Option (List ℕ)) (reads : List Tok → Res
     abbrev on : List ℕ → List (List Op) → Content V
     on owed code = record { cells = cells; consts = consts; owed = owed; code = code }
 
-    ops_on : (ops : List Op) (n : ℕ) (w : Content V) (owed : List ℕ) (front : List (List Op)) (c : List Op) (bs : List ℕ) → All (λ op. given (length cells) (length consts) op ≡ true) ops → All Whole ops → sum_by length front + length c + length ops ≤ 1024 → ((m : ℕ) → read_lines reads m (on owed (front ++ ((c ++ ops) ∷ []))) (cut 10 bs) ≡ Ok w) → read_lines reads n (on owed (front ++ (c ∷ []))) (cut 10 (flat_map op_text ops ++ bs)) ≡ Ok w
+    ops_on : (ops : List Op) (n : ℕ) (w : Content V) (owed : List ℕ) (front : List (List Op)) (c : List Op) (bs : List ℕ) → AllByRecursion (λ op. given (length cells) (length consts) op ≡ true) ops → AllByRecursion Whole ops → sum_by length front + length c + length ops ≤ 1024 → ((m : ℕ) → read_lines reads m (on owed (front ++ ((c ++ ops) ∷ []))) (cut 10 bs) ≡ Ok w) → read_lines reads n (on owed (front ++ (c ∷ []))) (cut 10 (flat_map op_text ops ++ bs)) ≡ Ok w
     ops_on [] n w owed front c bs g h room go = ap (λ l. read_lines reads n (on owed (front ++ (l ∷ []))) (cut 10 bs)) (sym (append-nil c)) ∙ go n
     ops_on (op ∷ ops) n w owed front c bs g h room go =
         let low : Low (numbers op) = low-numbers (length cells) (length consts) few_cells few_consts op g.0 h.0 in
@@ -78,7 +78,7 @@ module _ {V : Type 0} (form : V → Option (List ℕ)) (reads : List Tok → Res
         ∙ (ap (λ l. read_lines reads (n + 1) (on owed l) (cut 10 (flat_map op_text ops ++ bs))) (on_last_at front c op)
         ∙ ops_on ops (n + 1) w owed front (c ++ (op ∷ [])) bs g.1 h.1 (omega (arith, length_push c op)) (λ m. ap (λ l. read_lines reads m (on owed (front ++ (l ∷ []))) (cut 10 bs)) (append_assoc c (op ∷ []) ops) ∙ go m)))
 
-    tasks_on : (os : List ℕ) (cs : List (List Op)) (n : ℕ) (w : Content V) (owed : List ℕ) (front : List (List Op)) → length os ≡ length cs → All (λ n. n ≤ 255) os → All (All (λ op. given (length cells) (length consts) op ≡ true)) cs → All (All Whole) cs → length front + length cs ≤ 16 → sum_by length front + sum_by length cs ≤ 1024 → ((m : ℕ) → read_lines reads m (on (owed ++ os) (front ++ cs)) (cut 10 []) ≡ Ok w) → read_lines reads n (on owed front) (cut 10 (tasks_text os cs)) ≡ Ok w
+    tasks_on : (os : List ℕ) (cs : List (List Op)) (n : ℕ) (w : Content V) (owed : List ℕ) (front : List (List Op)) → length os ≡ length cs → AllByRecursion (λ n. n ≤ 255) os → AllByRecursion (AllByRecursion (λ op. given (length cells) (length consts) op ≡ true)) cs → AllByRecursion (AllByRecursion Whole) cs → length front + length cs ≤ 16 → sum_by length front + sum_by length cs ≤ 1024 → ((m : ℕ) → read_lines reads m (on (owed ++ os) (front ++ cs)) (cut 10 []) ≡ Ok w) → read_lines reads n (on owed front) (cut 10 (tasks_text os cs)) ≡ Ok w
     tasks_on [] [] n w owed front e o g h few room go = (λ i. read_lines reads n (on (sym (append-nil owed) i) (sym (append-nil front) i)) (cut 10 [])) ∙ go n
     tasks_on [] (c ∷ cs) n w owed front e o g h few room go = absurd (omega arith)
     tasks_on (k ∷ os) [] n w owed front e o g h few room go = absurd (omega arith)

@@ -1,6 +1,6 @@
 -- The two ways between bytes and sheets, for every kind of value.
 use Rattle.std.specs.Prelude.{◌≡◌, ℕ, ◌≤◌, Bool, true, ◌&&◌, List, length, None, Ok, sum_by, Option, Result, nat_lt}
-use Rattle.std.specs.List.{AllByRecursion as All}
+use Rattle.std.specs.List.{AllByRecursion}
 use Rattle.text.specs.Tokens.{Tok}
 use Rattle.value.specs.declared.codes.Fault.{Fault}
 use Rattle.program.specs.declared.Op.{Op}
@@ -34,8 +34,8 @@ pub record Sound {V : Type 0} (s : Content V) : Type 0 where
   pub few_tasks : length s.code ≤ 16
   pub few_ops : sum_by length s.code ≤ 1024
   pub owed_each : length s.owed ≡ length s.code
-  pub owed_small : All (λ n. n ≤ 255) s.owed
-  pub ops_given : All (All (λ op. given (length s.cells) (length s.consts) op ≡ true)) s.code
+  pub owed_small : AllByRecursion (λ n. n ≤ 255) s.owed
+  pub ops_given : AllByRecursion (AllByRecursion (λ op. given (length s.cells) (length s.consts) op ≡ true)) s.code
   pub tasks_closed : first_open (first_task s) s.code ≡ None
   pub jumps_land : first_stray (length s.code) (first_task s) s.code ≡ None
 

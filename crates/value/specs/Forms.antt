@@ -1,6 +1,6 @@
 -- The forms of values: one pair of brackets around a letter and mostly, after a space, a part.
 use Rattle.std.specs.Prelude.{◌≡◌, ℕ, Bool, false, cond, ◌&&◌, List, [], ◌∷◌, ◌++◌, length, get_or, Some, None, Option, ◌==◌, ◌≢◌, slice_index, slice_index_or}
-use Rattle.std.specs.List.{AllByRecursion as All}
+use Rattle.std.specs.List.{AllByRecursion}
 use Rattle.text.specs.Tokens.{Tok, end, number, word, mark, rest, seen}
 use Rattle.text.specs.declared.token.Token.{Token}
 use Rattle.text.specs.declared.token.Token.TheVariants.{End}
@@ -13,7 +13,7 @@ Plain b = (b ≢ 40) × (b ≢ 41) × (b ≢ 10)
 pub record Bracketed (bs : List ℕ) : Type 0 where
   pub inside : List ℕ
   pub is : bs ≡ 40 ∷ (inside ++ (41 ∷ []))
-  pub plain : All Plain inside
+  pub plain : AllByRecursion Plain inside
 
 -- `(`, a letter, a space, a part, `)`
 abbrev pub tagged : ℕ → List ℕ → List ℕ

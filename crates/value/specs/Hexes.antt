@@ -4,7 +4,7 @@ use Rattle.std.proofs.Common.{sym, ap, subst, ◌∙◌, ⊎_elim, pow-suc, add-
 use Rattle.std.proofs.Math.Nat.{pow-le-pow_right}
 use Rattle.std.specs.Str.Parse.{AllDigits, digits_value}
 use Rattle.std.specs.Char.{digit_value, digit_char as digitChar}
-use Rattle.std.specs.List.{AllByRecursion as All}
+use Rattle.std.specs.List.{AllByRecursion}
 use Rattle.std.proofs.lemmas.Bool.{cond-true, cond-false, and_from, and_right, and_parts, eqb-true, eq-eqb, cases_Bool}
 use Rattle.std.proofs.lemmas.Bool.Decides.{nat_tests}
 use Rattle.std.proofs.ByRecursion.{Decides-by_and, All-get_or, All-more, All-push}
@@ -15,7 +15,7 @@ use Rattle.value.specs.Hex.{hex_digit, all_hex, hexed, hex}
 
 -- each byte is a digit
 abbrev pub Hexes : List ℕ → Type 0
-Hexes bs = All (λ c. hex_digit c ≡ true) bs
+Hexes bs = AllByRecursion (λ c. hex_digit c ≡ true) bs
 
 hexes_of : (bs : List ℕ) → all_hex bs ≡ true → Hexes bs
 hexes_of bs = (Decides-by_and hex_digit (λ c. hex_digit c ≡ true) all_hex (λ c. ((λ h. h), (λ h. h))) refl (λ _ _. refl) bs).0

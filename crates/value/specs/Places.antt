@@ -1,7 +1,7 @@
 -- Tokens in their places: the tokens of a form, and the bytes of tokens that are a form's.
 use Rattle.std.specs.Prelude.{◌≡◌, ℕ, zero, suc, ◌<◌, ◌≤◌, Bool, true, false, cond, ◌&&◌, List, [], ◌∷◌, ◌++◌, map, length, Some, None, ◌==◌, ◌≢◌, slice_index, slice_index_or, refl}
 use Rattle.std.proofs.Common.{sym, ap, ◌∙◌, ⊎_elim, arith}
-use Rattle.std.specs.List.{flat_map, AllByRecursion as All}
+use Rattle.std.specs.List.{flat_map, AllByRecursion}
 use Rattle.std.proofs.ByRecursion.{All-weaker}
 use Rattle.std.proofs.lemmas.Bool.{cond-true, cond-false, cases_Bool, and_parts, eqb-true, true≢false}
 use Rattle.text.specs.Tokens.{Tok, end, number, word, mark, rest, seen, text, figure, atom, part, prefixed, lexed}
@@ -14,7 +14,7 @@ onto_part b c w true ts = refl
 onto_part b c w false ts = refl
 
 -- letters, digits and minus before the closing bracket are one token
-lexed_part : (b : ℕ) (w : List ℕ) → atom b ≡ true → All (λ c. atom c ≡ true) w → lexed (b ∷ (w ++ (41 ∷ []))) ≡ part b w ∷ mark 41 ∷ []
+lexed_part : (b : ℕ) (w : List ℕ) → atom b ≡ true → AllByRecursion (λ c. atom c ≡ true) w → lexed (b ∷ (w ++ (41 ∷ []))) ≡ part b w ∷ mark 41 ∷ []
 lexed_part b [] h all = cond-true (atom b) (prefixed b (mark 41 ∷ [])) (mark b ∷ mark 41 ∷ []) h
 lexed_part b (c ∷ w) h all =
     cond-true (atom b) (prefixed b (lexed (c ∷ (w ++ (41 ∷ []))))) (mark b ∷ lexed (c ∷ (w ++ (41 ∷ [])))) h
@@ -25,7 +25,7 @@ part_of_part b w true = refl
 part_of_part b w false = refl
 
 -- the tokens of a part after a letter's front
-pub lexed_after : (w : List ℕ) → 0 < length w → All (λ c. atom c ≡ true) w → (t : Tok) × (part_of t ≡ Some w) × (lexed (w ++ (41 ∷ [])) ≡ t ∷ mark 41 ∷ [])
+pub lexed_after : (w : List ℕ) → 0 < length w → AllByRecursion (λ c. atom c ≡ true) w → (t : Tok) × (part_of t ≡ Some w) × (lexed (w ++ (41 ∷ [])) ≡ t ∷ mark 41 ∷ [])
 lexed_after [] some all = absurd (omega arith)
 lexed_after (b ∷ w) some all = (part b w, part_of_part b w (figure b), lexed_part b w all.0 all.1)
 
@@ -71,7 +71,7 @@ lone_seen letter ts = λ i. lone_at letter (sym (length-map ts seen) i) (λ k. p
 pub record Worded (w : List ℕ) : Type 0 where
   pub some : 0 < length w
   pub few : length w ≤ 12
-  pub atoms : All (λ c. atom c ≡ true) w
+  pub atoms : AllByRecursion (λ c. atom c ≡ true) w
 
 pub short : (letter : ℕ) (w : List ℕ) → Worded w → length (tagged letter w) ≤ 16
 short letter w h = omega (arith, length_push w 41, h.few)

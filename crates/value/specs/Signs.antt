@@ -4,7 +4,7 @@ use Rattle.std.proofs.Common.{sym, ap, ◌∙◌, ⊎_elim, arith, lit<, of_z, t
 use Rattle.std.proofs.Math.Nat.{pow-le-pow_right}
 use Rattle.std.specs.Str.Parse.{digits_value}
 use Rattle.std.specs.Int.{IsInRange, w32}
-use Rattle.std.specs.List.{AllByRecursion as All}
+use Rattle.std.specs.List.{AllByRecursion}
 use Rattle.std.specs.Str.{all_ascii_digits}
 use Rattle.std.specs.Fmt.{signed_decimal}
 use Rattle.std.proofs.lemmas.Int.{to_z-of_z}
@@ -80,7 +80,7 @@ decimal_numeral bs n e =
     (cases_Bool (nat_le 1 (length bs) && (nat_le (length bs) 10 && (tidy bs && all_ascii_digits bs))))
 
 -- the bytes of a number are digits
-digit_bytes : (n : ℕ) → n < 10 ^ 10 → All (IsInRange 48 57) (decimal n)
+digit_bytes : (n : ℕ) → n < 10 ^ 10 → AllByRecursion (IsInRange 48 57) (decimal n)
 digit_bytes n h = All-from_get_or (IsInRange 48 57) (decimal n) 0 (λ i l. digit_at (decimal n) i (own.to (decimal n) (digits_decimal own n (small n h))) l)
 
 no_minus : (n : ℕ) → n < 10 ^ 10 → slice_index (decimal n) 0 ≢ 45
@@ -140,7 +140,7 @@ signed_integer bs z e =
     (ap in_32 r.3 ∙ lt-ltb r.0 2147483648 r.2, decimal_numeral bs r.0 r.1 ∙ ap signed_decimal (sym r.3)))
     (cases_Bool (slice_index bs 0 == 45))
 
-digits_atoms : (bs : List ℕ) → All (IsInRange 48 57) bs → All (λ c. atom c ≡ true) bs
+digits_atoms : (bs : List ℕ) → AllByRecursion (IsInRange 48 57) bs → AllByRecursion (λ c. atom c ≡ true) bs
 digits_atoms bs h = All-weaker (IsInRange 48 57) (λ c. atom c ≡ true) (λ c d. grind (arith, nat_tests)) bs h
 
 pub worded_signed : (z : ℤ) → in_32 z ≡ true → Worded (signed_decimal z)
