@@ -20,14 +20,28 @@ use Rattle.kept_station.specs.Kept.{Kept, unread}
 use Rattle.kept_station.proofs.CallsKeep.{calls_keep}
 use Rattle.kept_station.proofs.Fresh.{new_keeps}
 
--- the ghost fields, in their order
+-- the ghost fields
 abbrev pub Holds : Board → List (List Op) → ℕ → ℕ → Type 0
-Holds b ops cells consts =
-    BoardSizes b × (RowSizes b × (TableSizes ops cells consts × (InBounds ops cells consts × (TasksClosed ops × (OwnedWell ops b × (StandsWell ops b × Unit {0}))))))
+Holds b ops cells consts = record {
+  sizes : BoardSizes b;
+  counts : RowSizes b;
+  limits : TableSizes ops cells consts;
+  bounds : InBounds ops cells consts;
+  ends : TasksClosed ops;
+  owners : OwnedWell ops b;
+  places : StandsWell ops b;
+}
 
 pub holds : {V : Type 0} (w : World V) → Kept w → Holds w.board w.code w.cells w.consts
-holds w kept =
-    (kept.board.sizes, (kept.board.row_sizes, (kept.table.sizes, (kept.table.in_bounds, (kept.table.tasks_closed, (kept.board.owned_well, (kept.board.stands_well, tt)))))))
+holds w kept = record {
+  sizes = kept.board.sizes;
+  counts = kept.board.row_sizes;
+  limits = kept.table.sizes;
+  bounds = kept.table.in_bounds;
+  ends = kept.table.tasks_closed;
+  owners = kept.board.owned_well;
+  places = kept.board.stands_well;
+}
 
 pub kept_of : {B V : Type 0} (seen : B → Seen) (s : Station B) (xs : List V) → Kept (world_of seen s.engine xs)
 kept_of seen s xs = record {

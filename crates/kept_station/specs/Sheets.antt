@@ -1,8 +1,8 @@
 -- The station that a sheet sets up, and the sheet that a station is written to.
-use Rattle.std.specs.Prelude.{ℕ, Bool, true, false, cond, not, ◌&&◌, List, length, replicate, Some, None, Ok, Err, Option, Result, nat_le, nat_lt, slice_index_or}
+use Rattle.std.specs.Prelude.{ℕ, cond, ◌&&◌, List, length, replicate, Some, None, Ok, Err, Option, Result, nat_le, nat_lt, slice_index_or}
 use Rattle.text.specs.Tokens.{Tok}
 use Rattle.value.specs.declared.codes.Fault.{Fault}
-use Rattle.book.specs.Seen.{any, rested, full}
+use Rattle.book.specs.Seen.{rested, full}
 use Rattle.program.specs.declared.Mode.{Mode}
 use Rattle.program.specs.declared.Mode.TheVariants.{Protected}
 use Rattle.sheet.specs.declared.parts.Cell.{Cell}
@@ -11,10 +11,7 @@ use Rattle.sheet.specs.Content.{Content}
 use Rattle.sheet.specs.Reading.{read_text}
 use Rattle.sheet.specs.Sheets.{of_parts}
 use Rattle.sheet.specs.Writing.{write_answer, write_out}
-use Rattle.board.specs.declared.Row.{Row}
 use Rattle.board.specs.declared.Board.{Board}
-use Rattle.board.specs.declared.TaskState.{TaskState}
-use Rattle.board.specs.declared.TaskState.TheVariants.{Idle, Ready, Inside, Outside}
 use Rattle.faults.specs.declared.Refusal.{Refusal}
 use Rattle.faults.specs.declared.Refusal.TheVariants.{ShortSlice, NotIdle}
 use Rattle.board.specs.Boards.{idle_row, row_at, mode_of}
