@@ -1,5 +1,6 @@
-use Rattle.std.specs.Prelude.{◌≡◌, ℕ, Bool, true, false, cond, List, [], ◌∷◌, ℤ, Some, None, Ok, Option, to_bits, refl, Float}
-use Rattle.std.proofs.Common.{sym, ap, ◌∙◌, arith}
+-- The laws of readings as a kind of value: their forms are short and bracketed, and are read as they were written.
+use Rattle.std.specs.Prelude.{◌≡◌, ℕ, ◌≤◌, length, Bool, true, false, cond, List, [], ◌∷◌, ℤ, Some, None, Ok, Option, to_bits, refl, Float}
+use Rattle.std.proofs.Common.{sym, ap, ◌∙◌, subst, arith}
 use Rattle.std.specs.Float.{binary32}
 use Rattle.std.specs.Float.Ieee.{fits}
 use Rattle.std.specs.List.{flat_map}
@@ -10,7 +11,7 @@ use Rattle.value.specs.declared.readings.Reading.{Reading}
 use Rattle.value.specs.declared.readings.Reading.TheVariants.{Blank, Count, Bearing}
 use Rattle.value.specs.Bearings.{held, bearing_at}
 use Rattle.value.specs.Counts.{in_32, integer}
-use Rattle.value.specs.Forms.{tagged, tagged_part, lone}
+use Rattle.value.specs.Forms.{Bracketed, tagged, tagged_part, lone}
 use Rattle.value.specs.Hex.{hex, hexed}
 use Rattle.value.specs.Operations.{answer}
 use Rattle.value.specs.Readings.{reading_form, reading_at, reading_reads}
@@ -18,6 +19,18 @@ use Rattle.value.specs.Floats.{bearing_back, bearing_there}
 use Rattle.value.specs.Laws.{answered, count_owed, bearing_owed, worded_hex}
 use Rattle.value.specs.Places.{lexed_after, joined_tagged, joined_lone}
 use Rattle.value.specs.Signs.{worded_signed, integer_signed, signed_integer}
+
+pub short : (v : Reading) (bs : List ℕ) → reading_form v ≡ Some bs → length bs ≤ 16
+short Blank bs e = let f : 40 ∷ 101 ∷ 41 ∷ [] ≡ bs = cc in subst (λ l. length l ≤ 16) f (omega arith)
+short (Count z) bs e = (count_owed z bs e).short
+short (Bearing x) bs e = (bearing_owed x bs e).short
+
+pub bracketed : (v : Reading) (bs : List ℕ) → reading_form v ≡ Some bs → Bracketed bs
+bracketed Blank bs e =
+    let f : 40 ∷ 101 ∷ 41 ∷ [] ≡ bs = cc in
+    subst Bracketed f (record { inside = 101 ∷ []; is = refl; plain = (((λ e. omega arith), (λ e. omega arith), (λ e. omega arith)), tt) })
+bracketed (Count z) bs e = (count_owed z bs e).bracketed
+bracketed (Bearing x) bs e = (bearing_owed x bs e).bracketed
 
 -- the forms of a count and of a bearing are read as these
 pub count_back : (z : ℤ) → in_32 z ≡ true → reading_reads (lexed (tagged 110 (signed_decimal z))) ≡ Ok (Count z)

@@ -1,3 +1,4 @@
+-- The laws of whole numbers as a kind of value: their forms are read as they were written.
 use Rattle.std.specs.Prelude.{◌≡◌, ℕ, true, List, [], ◌∷◌, ℤ, Some, None, Ok, Option}
 use Rattle.std.proofs.Common.{sym, ap, ◌∙◌, arith}
 use Rattle.std.specs.List.{flat_map}

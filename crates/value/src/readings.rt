@@ -1,10 +1,8 @@
-ghost use Rattle.std.specs.Prelude.{◌≡◌, ◌≤◌, [], ◌∷◌, length, refl};
-ghost use Rattle.std.proofs.Common.{subst, arith};
+ghost use Rattle.std.specs.Prelude.{◌≡◌, [], ◌∷◌, refl};
 ghost use Rattle.text.specs.Line.{spelt};
 ghost use Rattle.value.specs.Readings.{reading_zero, reading_truth, reading_outcome, reading_form, reading_reads, bearings};
-ghost use Rattle.value.specs.declared.readings.Reading.TheVariants.{Blank, Count, Bearing};
-ghost use Rattle.value.specs.Laws.{count_owed, bearing_owed, apart_by};
-ghost use Rattle.value.specs.Forms.{Bracketed, lone};
+ghost use Rattle.value.specs.Laws.{apart_by};
+ghost use Rattle.value.specs.Forms.{lone};
 ghost use Rattle.value.specs.ReadingKindLemmas;
 
 use crate::bearings::{is_on_circle, read_bearing, spell_bearing, turn_back, turn_on};
@@ -64,20 +62,9 @@ impl Kind for Reading {
 
     ghost reads = { reading_reads };
 
-    ghost short = { elim [
-      | Blank ↦ λ bs e. let f : 40 ∷ 101 ∷ 41 ∷ [] ≡ bs = cc in subst (λ l. length l ≤ 16) f (omega arith)
-      | Count z ↦ λ bs e. (count_owed z bs e).short
-      | Bearing x ↦ λ bs e. (bearing_owed x bs e).short
-    ] };
+    ghost short = { λ v bs e. ReadingKindLemmas.short v bs e };
 
-    ghost bracketed = { elim [
-      | Blank ↦
-          λ bs e.
-          let f : 40 ∷ 101 ∷ 41 ∷ [] ≡ bs = cc in
-          subst Bracketed f (record { inside = 101 ∷ []; is = refl; plain = (((λ e. omega arith), (λ e. omega arith), (λ e. omega arith)), tt) })
-      | Count z ↦ λ bs e. (count_owed z bs e).bracketed
-      | Bearing x ↦ λ bs e. (bearing_owed x bs e).bracketed
-    ] };
+    ghost bracketed = { λ v bs e. ReadingKindLemmas.bracketed v bs e };
 
     ghost apart = { λ v w bs e f. apart_by reading_reads bs v w (ReadingKindLemmas.back v bs e) (ReadingKindLemmas.back w bs f) };
 
