@@ -6,13 +6,13 @@ use Rattle.machine.specs.Effect.{Meaning, meaning}
 use Rattle.book.specs.Seen.{rested}
 use Rattle.sheet.specs.Refusals.{notice}
 use Rattle.sheet.specs.declared.parts.Notice.{Notice}
-use Rattle.station.specs.declared.faults.Refusal.{Refusal}
-use Rattle.station.specs.declared.station.Event.{Event}
-use Rattle.station.specs.declared.station.Event.TheVariants.{Admit, Open, Step, Commit, Undo}
-use Rattle.station.specs.Calls.{called}
-use Rattle.station.specs.Faults.{told}
+use Rattle.faults.specs.declared.Refusal.{Refusal}
+use Rattle.engine.specs.declared.Event.{Event}
+use Rattle.engine.specs.declared.Event.TheVariants.{Admit, Open, Step, Commit, Undo}
+use Rattle.engine.specs.Calls.{called}
+use Rattle.faults.specs.Faults.{told}
 use Rattle.station.specs.Sheets.{no_board, reads_sheet}
-use Rattle.station.specs.World.{World, Called}
+use Rattle.engine.specs.World.{World, Called}
 
 -- what a call answers: it is accepted, or tells why not
 pub data Answer : Type 0 where

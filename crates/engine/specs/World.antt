@@ -1,5 +1,6 @@
 -- A station with its working slice as a call finds it, and what a call leaves.
 use Rattle.std.specs.Prelude.{◌≡◌, ℕ, cond, List, Ok, Err, Result}
+use Rattle.book.specs.declared.Book.{Ghosts}
 use Rattle.book.specs.Seen.{Seen, rested, Spending, same, full, Lines}
 use Rattle.program.specs.declared.Op.{Op}
 use Rattle.program.specs.Program.{code}
@@ -19,8 +20,8 @@ pub record World (V : Type 0) : Type 0 where
   pub cells : ℕ
   pub consts : ℕ
 
-abbrev pub world_of : {B V : Type 0} → (B → Seen) → Engine B → List V → World V
-world_of seen s xs = record { board = s.board; slice = xs; seen = seen s.book; code = code s.program; cells = s.cells; consts = s.consts }
+abbrev pub world_of : {B V : Type 0} → Ghosts B → Engine B → List V → World V
+world_of book s xs = record { board = s.board; slice = xs; seen = book.seen s.book; code = code s.program; cells = s.cells; consts = s.consts }
 
 -- the answer, the world after, and what may happen to what the book has left
 pub record After (X V : Type 0) : Type 0 where
@@ -34,16 +35,21 @@ pub record SameTable {B : Type 0} (s n : Engine B) : Type 0 where
   pub cells : n.cells ≡ s.cells
   pub consts : n.consts ≡ s.consts
 
--- what a call promises: its answer, the engine and the slice after it are those of a; what the book has left keeps to the book's lines
-pub record Does {B X V : Type 0} (seen : B → Seen) (left : B → ℕ → ℕ) (s n : Engine B) (xs : List V) (r : X) (a : After X V) : Type 0 where
+-- what is left: the answer, the engine and the slice are those of a, and what the book has left keeps to the book's lines
+pub record Leaves {B X V : Type 0} (book : Ghosts B) (s n : Engine B) (xs : List V) (r : X) (a : After X V) : Type 0 where
   pub answer : r ≡ a.answer
   pub board : n.board ≡ a.world.board
   pub slice : xs ≡ a.world.slice
-  pub notes : seen n.book ≡ a.world.seen
-  pub spare : Lines a.spends (left s.book) (left n.book)
+  pub notes : book.seen n.book ≡ a.world.seen
+  pub spare : Lines a.spends (book.left s.book) (book.left n.book)
   pub table : code n.program ≡ a.world.code
   pub cells : n.cells ≡ a.world.cells
   pub consts : n.consts ≡ a.world.consts
+
+-- what a call promises: that is left, and the program and the numbers of cells and constants stay
+pub record Does {B X V : Type 0} (book : Ghosts B) (s n : Engine B) (xs : List V) (r : X) (a : After X V) : Type 0 where
+  pub leaves : Leaves book s n xs r a
+  pub table : SameTable s n
 
 abbrev pub Stepped : Type 0 → Type 0
 Stepped V = After (Result (Unit {0}) StepFault) V

@@ -1,7 +1,7 @@
 // The operations that are the same on both sides.
 ghost use Rattle.std.specs.Prelude.{◌≡◌, ◌<◌, ◌≤◌, length};
 ghost use Rattle.book.specs.Seen.{Lines};
-ghost use Rattle.machine.specs.Effect.{meaning};
+ghost use Rattle.machine.specs.Effect.{meaning_of};
 ghost use Rattle.engine.specs.World.{world_of, Does};
 ghost use Rattle.engine.specs.Operations.{moves, fetches, applies, branches, awaits, writes_cell};
 
@@ -23,7 +23,7 @@ impl<B: Book> Engine<B> {
     ) -> Result<(), StepFault>
         requires task { t < 16 }
         requires long { 320 ≤ length slice.old }
-        ensures { Does B.Book.seen B.Book.left self.old self.new slice.new result (moves (meaning K.Kind.nought K.Kind.truth K.Kind.outcome) (world_of B.Book.seen self.old slice.old) t next) }
+        ensures { Does B.Book self.old self.new slice.new result (moves (meaning_of K.Kind) (world_of B.Book self.old slice.old) t next) }
     {
         set_state(&mut self.board, t, next);
         Ok(())
@@ -42,7 +42,7 @@ impl<B: Book> Engine<B> {
         requires long { 320 ≤ length slice.old }
         requires register { to < 4 }
         requires place { place < 320 }
-        ensures { Does B.Book.seen B.Book.left self.old self.new slice.new result (fetches (meaning K.Kind.nought K.Kind.truth K.Kind.outcome) (world_of B.Book.seen self.old slice.old) t to place next) }
+        ensures { Does B.Book self.old self.new slice.new result (fetches (meaning_of K.Kind) (world_of B.Book self.old slice.old) t to place next) }
     {
         copy(slice, place, register(t, to));
         set_state(&mut self.board, t, next);
@@ -65,7 +65,7 @@ impl<B: Book> Engine<B> {
         requires to { to < 4 }
         requires left { left < 4 }
         requires right { right < 4 }
-        ensures { Does B.Book.seen B.Book.left self.old self.new slice.new result (applies (meaning K.Kind.nought K.Kind.truth K.Kind.outcome) (world_of B.Book.seen self.old slice.old) t operation to left right next) }
+        ensures { Does B.Book self.old self.new slice.new result (applies (meaning_of K.Kind) (world_of B.Book self.old slice.old) t operation to left right next) }
     {
         let value = K::apply(
             operation,
@@ -89,7 +89,7 @@ impl<B: Book> Engine<B> {
         requires task { t < 16 }
         requires long { 320 ≤ length slice.old }
         requires register { test < 4 }
-        ensures { Does B.Book.seen B.Book.left self.old self.new slice.new result (branches (meaning K.Kind.nought K.Kind.truth K.Kind.outcome) (world_of B.Book.seen self.old slice.old) t test next far) }
+        ensures { Does B.Book self.old self.new slice.new result (branches (meaning_of K.Kind) (world_of B.Book self.old slice.old) t test next far) }
     {
         let truth = slice[register(t, test)].is_true();
         set_state(&mut self.board, t, if truth { next } else { far });
@@ -107,7 +107,7 @@ impl<B: Book> Engine<B> {
         requires task { t < 16 }
         requires long { 320 ≤ length slice.old }
         requires register { test < 4 }
-        ensures { Does B.Book.seen B.Book.left self.old self.new slice.new result (awaits (meaning K.Kind.nought K.Kind.truth K.Kind.outcome) (world_of B.Book.seen self.old slice.old) t test next) }
+        ensures { Does B.Book self.old self.new slice.new result (awaits (meaning_of K.Kind) (world_of B.Book self.old slice.old) t test next) }
     {
         if !slice[register(t, test)].is_true() {
             return Err(StepFault::Waiting);
@@ -129,7 +129,7 @@ impl<B: Book> Engine<B> {
         requires long { 320 ≤ length slice.old }
         requires cell { cell < 64 }
         requires register { from < 4 }
-        ensures { Does B.Book.seen B.Book.left self.old self.new slice.new result (writes_cell (meaning K.Kind.nought K.Kind.truth K.Kind.outcome) (world_of B.Book.seen self.old slice.old) t cell from next) }
+        ensures { Does B.Book self.old self.new slice.new result (writes_cell (meaning_of K.Kind) (world_of B.Book self.old slice.old) t cell from next) }
     {
         copy(slice, register(t, from), cell as usize);
         set_state(&mut self.board, t, next);

@@ -1,7 +1,7 @@
 // The calls.
 ghost use Rattle.std.specs.Prelude.{◌≡◌, ◌<◌, ◌≤◌, length};
 ghost use Rattle.book.specs.Seen.{Lines};
-ghost use Rattle.machine.specs.Effect.{meaning};
+ghost use Rattle.machine.specs.Effect.{meaning_of};
 ghost use Rattle.engine.specs.World.{world_of, Does};
 ghost use Rattle.board.specs.Boards.{state_at};
 ghost use Rattle.engine.specs.Calls.{admits, opens, steps_in, steps_out, commits_in, meets, called};
@@ -18,7 +18,7 @@ impl<B: Book> Engine<B> {
     fn admit_idle<K: Kind>(&mut self, slice: &mut [K], t: usize) -> Result<(), Refusal>
         requires task { t < 16 }
         requires long { 320 ≤ length slice.old }
-        ensures { Does B.Book.seen B.Book.left self.old self.new slice.new result (admits (meaning K.Kind.nought K.Kind.truth K.Kind.outcome) (world_of B.Book.seen self.old slice.old) t) }
+        ensures { Does B.Book self.old self.new slice.new result (admits (meaning_of K.Kind) (world_of B.Book self.old slice.old) t) }
     {
         let row = self.board.rows[t];
         if row.owed == 0 {
@@ -37,7 +37,7 @@ impl<B: Book> Engine<B> {
     fn open_ready<K: Kind>(&mut self, slice: &mut [K], t: usize, place: u16) -> Result<(), Refusal>
         requires task { t < 16 }
         requires long { 320 ≤ length slice.old }
-        ensures { Does B.Book.seen B.Book.left self.old self.new slice.new result (opens (meaning K.Kind.nought K.Kind.truth K.Kind.outcome) (world_of B.Book.seen self.old slice.old) t place) }
+        ensures { Does B.Book self.old self.new slice.new result (opens (meaning_of K.Kind) (world_of B.Book self.old slice.old) t place) }
     {
         let owed = self.board.rows[t].owed;
         self.board.rows[t] = Row {
@@ -63,7 +63,7 @@ impl<B: Book> Engine<B> {
     ) -> Result<(), Refusal>
         requires task { t < 16 }
         requires long { 320 ≤ length slice.old }
-        ensures { Does B.Book.seen B.Book.left self.old self.new slice.new result (steps_in (meaning K.Kind.nought K.Kind.truth K.Kind.outcome) (world_of B.Book.seen self.old slice.old) t (B.Book.left self.old.book) place opening) }
+        ensures { Does B.Book self.old self.new slice.new result (steps_in (meaning_of K.Kind) (world_of B.Book self.old slice.old) t (B.Book.left self.old.book) place opening) }
     {
         let op = self.op_at(t, place);
         let done = self.step_inside(slice, t, place, opening, op);
@@ -75,7 +75,7 @@ impl<B: Book> Engine<B> {
     fn step_out<K: Kind>(&mut self, slice: &mut [K], t: usize, place: u16) -> Result<(), Refusal>
         requires task { t < 16 }
         requires long { 320 ≤ length slice.old }
-        ensures { Does B.Book.seen B.Book.left self.old self.new slice.new result (steps_out (meaning K.Kind.nought K.Kind.truth K.Kind.outcome) (world_of B.Book.seen self.old slice.old) t place) }
+        ensures { Does B.Book self.old self.new slice.new result (steps_out (meaning_of K.Kind) (world_of B.Book self.old slice.old) t place) }
     {
         let op = self.op_at(t, place);
         let done = self.step_outside(slice, t, place, op);
@@ -87,7 +87,7 @@ impl<B: Book> Engine<B> {
     fn commit_in<K: Kind>(&mut self, slice: &mut [K], t: usize, place: u16) -> Result<(), Refusal>
         requires task { t < 16 }
         requires long { 320 ≤ length slice.old }
-        ensures { Does B.Book.seen B.Book.left self.old self.new slice.new result (commits_in (meaning K.Kind.nought K.Kind.truth K.Kind.outcome) (world_of B.Book.seen self.old slice.old) t place) }
+        ensures { Does B.Book self.old self.new slice.new result (commits_in (meaning_of K.Kind) (world_of B.Book self.old slice.old) t place) }
     {
         let op = self.op_at(t, place);
         let done = self.commit_at(slice, t, place, op);
@@ -99,7 +99,7 @@ impl<B: Book> Engine<B> {
     fn meet<K: Kind>(&mut self, slice: &mut [K], t: usize, event: Event) -> Result<(), Refusal>
         requires task { t < 16 }
         requires long { 320 ≤ length slice.old }
-        ensures { Does B.Book.seen B.Book.left self.old self.new slice.new result (meets (meaning K.Kind.nought K.Kind.truth K.Kind.outcome) (world_of B.Book.seen self.old slice.old) t (B.Book.left self.old.book) (state_at self.old.board t) event) }
+        ensures { Does B.Book self.old self.new slice.new result (meets (meaning_of K.Kind) (world_of B.Book self.old slice.old) t (B.Book.left self.old.book) (state_at self.old.board t) event) }
     {
         match (self.board.rows[t].state, event) {
             (TaskState::Idle, Event::Admit) => self.admit_idle(slice, t),
@@ -117,7 +117,7 @@ impl<B: Book> Engine<B> {
     // One call: the slice is looked at first, then whether there is such a task, then its state.
     // A refused call changes nothing.
     pub fn call<K: Kind>(&mut self, slice: &mut [K], t: usize, event: Event) -> Result<(), Refusal>
-        ensures { Does B.Book.seen B.Book.left self.old self.new slice.new result (called (meaning K.Kind.nought K.Kind.truth K.Kind.outcome) (world_of B.Book.seen self.old slice.old) t (B.Book.left self.old.book) event) }
+        ensures { Does B.Book self.old self.new slice.new result (called (meaning_of K.Kind) (world_of B.Book self.old slice.old) t (B.Book.left self.old.book) event) }
     {
         if slice.len() < PLACES {
             return Err(Refusal::ShortSlice { task: t });

@@ -1,7 +1,7 @@
 // How a transaction ends: it commits, or it is undone.
 ghost use Rattle.std.specs.Prelude.{◌≡◌, ◌<◌, ◌≤◌, length, if◌then◌else◌};
 ghost use Rattle.book.specs.Seen.{Lines, same, full, rested, finished, spending};
-ghost use Rattle.machine.specs.Effect.{meaning};
+ghost use Rattle.machine.specs.Effect.{meaning_of};
 ghost use Rattle.engine.specs.World.{world_of, SameTable, Does};
 ghost use Rattle.board.specs.Loops.{busy};
 ghost use Rattle.engine.specs.Lookup.{Bounded};
@@ -48,7 +48,7 @@ impl<B: Book> Engine<B> {
     fn end<K: Kind>(&mut self, slice: &mut [K], t: usize, next: TaskState) -> Result<(), StepFault>
         requires task { t < 16 }
         requires long { 320 ≤ length slice.old }
-        ensures { Does B.Book.seen B.Book.left self.old self.new slice.new result (ends (meaning K.Kind.nought K.Kind.truth K.Kind.outcome) (world_of B.Book.seen self.old slice.old) t next) }
+        ensures { Does B.Book self.old self.new slice.new result (ends (meaning_of K.Kind) (world_of B.Book self.old slice.old) t next) }
     {
         if self.book.is_stale(t) {
             return Err(StepFault::Stale);
@@ -72,7 +72,7 @@ impl<B: Book> Engine<B> {
         requires task { t < 16 }
         requires long { 320 ≤ length slice.old }
         requires fits { Bounded place op }
-        ensures { Does B.Book.seen B.Book.left self.old self.new slice.new result (commits (meaning K.Kind.nought K.Kind.truth K.Kind.outcome) (world_of B.Book.seen self.old slice.old) t place op) }
+        ensures { Does B.Book self.old self.new slice.new result (commits (meaning_of K.Kind) (world_of B.Book self.old slice.old) t place op) }
     {
         match op {
             Op::Leave => self.end(slice, t, TaskState::Outside { place: place + 1 }),
@@ -90,7 +90,7 @@ impl<B: Book> Engine<B> {
     ) -> Result<(), Refusal>
         requires task { t < 16 }
         requires long { 320 ≤ length slice.old }
-        ensures { Does B.Book.seen B.Book.left self.old self.new slice.new result (undoes (meaning K.Kind.nought K.Kind.truth K.Kind.outcome) (world_of B.Book.seen self.old slice.old) t opening) }
+        ensures { Does B.Book self.old self.new slice.new result (undoes (meaning_of K.Kind) (world_of B.Book self.old slice.old) t opening) }
     {
         restore(&self.board, slice, t);
         self.board.release(t);

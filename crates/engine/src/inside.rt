@@ -1,7 +1,7 @@
 // One step of a transaction.
 ghost use Rattle.std.specs.Prelude.{◌≡◌, ◌<◌, ◌≤◌, length};
 ghost use Rattle.book.specs.Seen.{Lines};
-ghost use Rattle.machine.specs.Effect.{meaning};
+ghost use Rattle.machine.specs.Effect.{meaning_of};
 ghost use Rattle.engine.specs.World.{world_of, Does};
 ghost use Rattle.engine.specs.Lookup.{Bounded};
 ghost use Rattle.engine.specs.Operations.{reads_inside, acquires, writes_inside, starts_inside, step_inside};
@@ -29,7 +29,7 @@ impl<B: Book> Engine<B> {
         requires long { 320 ≤ length slice.old }
         requires register { to < 4 }
         requires cell { cell < 64 }
-        ensures { Does B.Book.seen B.Book.left self.old self.new slice.new result (reads_inside (meaning K.Kind.nought K.Kind.truth K.Kind.outcome) (world_of B.Book.seen self.old slice.old) t to cell next) }
+        ensures { Does B.Book self.old self.new slice.new result (reads_inside (meaning_of K.Kind) (world_of B.Book self.old slice.old) t to cell next) }
     {
         let c = cell as usize;
         let held = match self.board.owners[c] {
@@ -55,7 +55,7 @@ impl<B: Book> Engine<B> {
         requires long { 320 ≤ length slice.old }
         requires cell { cell < 64 }
         requires register { from < 4 }
-        ensures { Does B.Book.seen B.Book.left self.old self.new slice.new result (acquires (meaning K.Kind.nought K.Kind.truth K.Kind.outcome) (world_of B.Book.seen self.old slice.old) t cell from next) }
+        ensures { Does B.Book self.old self.new slice.new result (acquires (meaning_of K.Kind) (world_of B.Book self.old slice.old) t cell from next) }
     {
         let c = cell as usize;
         copy(slice, c, SAVED + c);
@@ -78,7 +78,7 @@ impl<B: Book> Engine<B> {
         requires long { 320 ≤ length slice.old }
         requires cell { cell < 64 }
         requires register { from < 4 }
-        ensures { Does B.Book.seen B.Book.left self.old self.new slice.new result (writes_inside (meaning K.Kind.nought K.Kind.truth K.Kind.outcome) (world_of B.Book.seen self.old slice.old) t (B.Book.left self.old.book) cell from next) }
+        ensures { Does B.Book self.old self.new slice.new result (writes_inside (meaning_of K.Kind) (world_of B.Book self.old slice.old) t (B.Book.left self.old.book) cell from next) }
     {
         let c = cell as usize;
         match (self.board.owners[c], self.board.modes[c]) {
@@ -109,7 +109,7 @@ impl<B: Book> Engine<B> {
         requires task { t < 16 }
         requires long { 320 ≤ length slice.old }
         requires started { task < 16 }
-        ensures { Does B.Book.seen B.Book.left self.old self.new slice.new result (starts_inside (meaning K.Kind.nought K.Kind.truth K.Kind.outcome) (world_of B.Book.seen self.old slice.old) t task next) }
+        ensures { Does B.Book self.old self.new slice.new result (starts_inside (meaning_of K.Kind) (world_of B.Book self.old slice.old) t task next) }
     {
         let u = task as usize;
         let mut own = self.board.rows[t].own;
@@ -138,7 +138,7 @@ impl<B: Book> Engine<B> {
         requires task { t < 16 }
         requires long { 320 ≤ length slice.old }
         requires fits { Bounded place op }
-        ensures { Does B.Book.seen B.Book.left self.old self.new slice.new result (step_inside (meaning K.Kind.nought K.Kind.truth K.Kind.outcome) (world_of B.Book.seen self.old slice.old) t (B.Book.left self.old.book) place opening op) }
+        ensures { Does B.Book self.old self.new slice.new result (step_inside (meaning_of K.Kind) (world_of B.Book self.old slice.old) t (B.Book.left self.old.book) place opening op) }
     {
         match op {
             Op::Read { to, cell } => {

@@ -35,7 +35,7 @@ pub(crate) fn opening_register(t: usize, i: u8) -> usize
 pub(crate) fn copy<K: Kind>(slice: &mut [K], from: usize, to: usize)
     requires from_in { from < length slice.old }
     requires to_in { to < length slice.old }
-    ensures { slice.new ≡ copied K.nought slice.old from to }
+    ensures { slice.new ≡ copied K.ZERO slice.old from to }
 {
     slice[to] = slice[from];
 }
@@ -44,7 +44,7 @@ pub(crate) fn copy<K: Kind>(slice: &mut [K], from: usize, to: usize)
 pub(crate) fn keep_registers<K: Kind>(slice: &mut [K], t: usize)
     requires task { t < 16 }
     requires long { 320 ≤ length slice.old }
-    ensures { slice.new ≡ kept K.nought slice.old t }
+    ensures { slice.new ≡ kept K.ZERO slice.old t }
 {
     copy(slice, register(t, 0), opening_register(t, 0));
     copy(slice, register(t, 1), opening_register(t, 1));
@@ -56,7 +56,7 @@ pub(crate) fn keep_registers<K: Kind>(slice: &mut [K], t: usize)
 pub(crate) fn take_registers_back<K: Kind>(slice: &mut [K], t: usize)
     requires task { t < 16 }
     requires long { 320 ≤ length slice.old }
-    ensures { slice.new ≡ taken_back K.nought slice.old t }
+    ensures { slice.new ≡ taken_back K.ZERO slice.old t }
 {
     copy(slice, opening_register(t, 0), register(t, 0));
     copy(slice, opening_register(t, 1), register(t, 1));
@@ -68,9 +68,9 @@ pub(crate) fn take_registers_back<K: Kind>(slice: &mut [K], t: usize)
 pub(crate) fn clear_registers<K: Kind>(slice: &mut [K], t: usize)
     requires task { t < 16 }
     requires long { 320 ≤ length slice.old }
-    ensures { slice.new ≡ cleared K.nought slice.old t }
+    ensures { slice.new ≡ cleared K.ZERO slice.old t }
 {
-    let zero = K::nil();
+    let zero = K::ZERO;
     slice[register(t, 0)] = zero;
     slice[register(t, 1)] = zero;
     slice[register(t, 2)] = zero;

@@ -1,7 +1,7 @@
 // One step of a driver.
 ghost use Rattle.std.specs.Prelude.{◌≡◌, ◌<◌, ◌≤◌, length};
 ghost use Rattle.book.specs.Seen.{Lines};
-ghost use Rattle.machine.specs.Effect.{meaning};
+ghost use Rattle.machine.specs.Effect.{meaning_of};
 ghost use Rattle.engine.specs.World.{world_of, Does};
 ghost use Rattle.engine.specs.Lookup.{Bounded};
 ghost use Rattle.engine.specs.Operations.{starts_outside, sets_mode, unprotects, step_outside};
@@ -27,7 +27,7 @@ impl<B: Book> Engine<B> {
         requires task { t < 16 }
         requires long { 320 ≤ length slice.old }
         requires started { task < 16 }
-        ensures { Does B.Book.seen B.Book.left self.old self.new slice.new result (starts_outside (meaning K.Kind.nought K.Kind.truth K.Kind.outcome) (world_of B.Book.seen self.old slice.old) t task next) }
+        ensures { Does B.Book self.old self.new slice.new result (starts_outside (meaning_of K.Kind) (world_of B.Book self.old slice.old) t task next) }
     {
         let u = task as usize;
         let owed = self.board.rows[u].owed;
@@ -51,7 +51,7 @@ impl<B: Book> Engine<B> {
         requires task { t < 16 }
         requires long { 320 ≤ length slice.old }
         requires cell { cell < 64 }
-        ensures { Does B.Book.seen B.Book.left self.old self.new slice.new result (sets_mode (meaning K.Kind.nought K.Kind.truth K.Kind.outcome) (world_of B.Book.seen self.old slice.old) t cell mode next) }
+        ensures { Does B.Book self.old self.new slice.new result (sets_mode (meaning_of K.Kind) (world_of B.Book self.old slice.old) t cell mode next) }
     {
         self.board.modes[cell as usize] = mode;
         set_state(&mut self.board, t, next);
@@ -69,7 +69,7 @@ impl<B: Book> Engine<B> {
         requires task { t < 16 }
         requires long { 320 ≤ length slice.old }
         requires cell { cell < 64 }
-        ensures { Does B.Book.seen B.Book.left self.old self.new slice.new result (unprotects (meaning K.Kind.nought K.Kind.truth K.Kind.outcome) (world_of B.Book.seen self.old slice.old) t cell next) }
+        ensures { Does B.Book self.old self.new slice.new result (unprotects (meaning_of K.Kind) (world_of B.Book self.old slice.old) t cell next) }
     {
         match self.board.owners[cell as usize] {
             Some(_) => Err(StepFault::Owned),
@@ -88,7 +88,7 @@ impl<B: Book> Engine<B> {
         requires task { t < 16 }
         requires long { 320 ≤ length slice.old }
         requires fits { Bounded place op }
-        ensures { Does B.Book.seen B.Book.left self.old self.new slice.new result (step_outside (meaning K.Kind.nought K.Kind.truth K.Kind.outcome) (world_of B.Book.seen self.old slice.old) t place op) }
+        ensures { Does B.Book self.old self.new slice.new result (step_outside (meaning_of K.Kind) (world_of B.Book self.old slice.old) t place op) }
     {
         match op {
             Op::Read { to, cell } => {

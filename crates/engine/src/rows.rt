@@ -39,7 +39,7 @@ pub(crate) fn set_owed(board: &mut Board, t: usize, owed: u8)
 // The cells that t owns take their saved values.
 pub(crate) fn restore<K: Kind>(board: &Board, slice: &mut [K], t: usize)
     requires { 320 ≤ length slice.old }
-    ensures { slice.new ≡ restored t K.nought board.now.owners slice.old 64 }
+    ensures { slice.new ≡ restored t K.ZERO board.now.owners slice.old 64 }
 {
     for c in 0..64 {
         if let Some(u) = board.owners[c] {

@@ -2,6 +2,7 @@
 use Rattle.std.specs.Prelude.{ℕ, ◌+◌, Bool, cond, Ok, Err, Result}
 use Rattle.value.specs.declared.codes.Operation.{Operation}
 use Rattle.value.specs.declared.codes.Cause.{Cause}
+use Rattle.value.specs.declared.kinds.Kind.{Ghosts}
 use Rattle.program.specs.declared.Mode.{Mode}
 use Rattle.program.specs.declared.Mode.TheVariants.{Protected, Unprotected}
 use Rattle.program.specs.declared.Op.{Op}
@@ -13,6 +14,10 @@ pub record Meaning (V : Type 0) : Type 0 where
   pub nought : V
   pub truth : V → Bool
   pub outcome : Operation → V → V → Result V Cause
+
+-- as the trait has it
+abbrev pub meaning_of : {V : Type 0} → Ghosts V → Meaning V
+meaning_of k = record { nought = k.ZERO; truth = k.truth; outcome = k.outcome }
 
 abbrev pub meaning : {V : Type 0} → V → (V → Bool) → (Operation → V → V → Result V Cause) → Meaning V
 meaning z t o = record { nought = z; truth = t; outcome = o }

@@ -1,8 +1,8 @@
 -- The station that a sheet sets up, and the sheet that a station is written to.
-use Rattle.std.specs.Prelude.{ℕ, Bool, true, false, cond, not, ◌&&◌, List, length, replicate, Some, None, Ok, Err, Option, Result, nat_le, nat_lt, slice_index_or}
+use Rattle.std.specs.Prelude.{ℕ, cond, ◌&&◌, List, length, replicate, Some, None, Ok, Err, Option, Result, nat_le, nat_lt, slice_index_or}
 use Rattle.text.specs.Tokens.{Tok}
 use Rattle.value.specs.declared.codes.Fault.{Fault}
-use Rattle.book.specs.Seen.{any, rested, full}
+use Rattle.book.specs.Seen.{rested, full}
 use Rattle.program.specs.declared.Mode.{Mode}
 use Rattle.program.specs.declared.Mode.TheVariants.{Protected}
 use Rattle.sheet.specs.declared.parts.Cell.{Cell}
@@ -11,21 +11,15 @@ use Rattle.sheet.specs.Content.{Content}
 use Rattle.sheet.specs.Reading.{read_text}
 use Rattle.sheet.specs.Sheets.{of_parts}
 use Rattle.sheet.specs.Writing.{write_answer, write_out}
-use Rattle.station.specs.declared.board.Row.{Row}
-use Rattle.station.specs.declared.board.Board.{Board}
-use Rattle.station.specs.declared.board.TaskState.{TaskState}
-use Rattle.station.specs.declared.board.TaskState.TheVariants.{Idle, Ready, Inside, Outside}
-use Rattle.station.specs.declared.faults.Refusal.{Refusal}
-use Rattle.station.specs.declared.faults.Refusal.TheVariants.{ShortSlice, NotIdle}
-use Rattle.station.specs.Boards.{row, row_at, state_at, mode_of}
-use Rattle.station.specs.Faults.{faulted, of_sheet}
-use Rattle.station.specs.Layout.{constant_place}
-use Rattle.station.specs.Laying.{blanked, laid, itself, tabulated}
-use Rattle.station.specs.World.{World, After, refuses}
-
--- an idle task that is owed n calls
-abbrev pub idle_row : ℕ → Row
-idle_row n = row n Idle (replicate 16 0)
+use Rattle.board.specs.declared.Board.{Board}
+use Rattle.faults.specs.declared.Refusal.{Refusal}
+use Rattle.faults.specs.declared.Refusal.TheVariants.{ShortSlice, NotIdle}
+use Rattle.board.specs.Boards.{idle_row, row_at, mode_of}
+use Rattle.board.specs.Loops.{at_work}
+use Rattle.faults.specs.Faults.{faulted, of_sheet}
+use Rattle.engine.specs.Layout.{constant_place}
+use Rattle.board.specs.Laying.{blanked, laid, itself, tabulated}
+use Rattle.engine.specs.World.{World, After, refuses}
 
 abbrev pub cell_mode : {V : Type 0} → Cell V → Mode
 cell_mode c = c.mode
@@ -77,16 +71,6 @@ module _ {V : Type 0} (nought : V) where
   -- what a sheet would say of the station
   abbrev pub sheet_of : World V → Content V
   sheet_of w = of_parts (tabulated (cell_in w.board w.slice) 64) w.cells (tabulated (constant_in w.slice) 64) w.consts (tabulated (λ t. (row_at w.board t).owed) 16) w.code
-
-abbrev pub is_idle : TaskState → Bool
-is_idle Idle = true
-is_idle (Ready p) = false
-is_idle (Inside p o) = false
-is_idle (Outside p) = false
-
--- some task is not idle
-abbrev pub at_work : Board → Bool
-at_work b = any (λ t. not (is_idle (state_at b t))) 16
 
 module _ {V : Type 0} (nought : V) (form : V → Option (List ℕ)) (w : World V) where
   abbrev pub writes_answer : List ℕ → Result ℕ Refusal

@@ -1,20 +1,12 @@
-// The engine: transactions side by side over shared cells, each undone by itself, and drivers on their own cells.
+// The station: the engine with what every station keeps, and the calls that people make.
 #![tactic(auto)]
 
-mod board;
-mod both;
 mod calls;
-mod ends;
-mod faults;
-mod inside;
+mod kept;
 mod laying;
-mod layout;
-mod lookup;
-mod outside;
 mod sheets;
-mod station;
 
 pub use board::{Board, Row, TaskState};
+pub use engine::{Event, PLACES};
 pub use faults::{Refusal, Side, StepFault, TaskFault};
-pub use layout::PLACES;
-pub use station::{Event, Station};
+pub use kept::Station;

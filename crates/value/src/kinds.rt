@@ -15,8 +15,7 @@ use text::{Line, Token};
 pub trait Kind: Copy + Drop {
     const ZERO: Self;
 
-    // the zero
-    ghost nought: { Self };
+    ghost ZERO: { Self };
 
     ghost truth: { Self → Bool };
 
@@ -28,10 +27,6 @@ pub trait Kind: Copy + Drop {
 
     // what the tokens of a value's place are read as
     ghost reads: { List Tok → Result Self Fault };
-
-    // A constant has no contract, so that generic code has the zero from here.
-    fn nil() -> Self
-        ensures { result ≡ nought };
 
     fn is_true(self) -> bool
         ensures { result ≡ truth self };

@@ -52,7 +52,7 @@ fn spell_blank() -> Line
 impl Kind for Reading {
     const ZERO: Reading = Reading::Blank;
 
-    ghost nought = { reading_zero };
+    ghost ZERO = { reading_zero };
 
     ghost truth = { reading_truth };
 
@@ -71,10 +71,6 @@ impl Kind for Reading {
     ghost back = { λ v bs e. ReadingKindLemmas.back v bs e };
 
     ghost there = { λ v ts e. ReadingKindLemmas.there v ts (lone 101 ts) refl e };
-
-    fn nil() -> Reading {
-        Self::ZERO
-    }
 
     fn is_true(self) -> bool {
         match self {

@@ -19,7 +19,7 @@ pub struct Whole {
 impl Kind for Whole {
     const ZERO: Whole = Whole { value: 0 };
 
-    ghost nought = { whole_zero };
+    ghost ZERO = { whole_zero };
 
     ghost truth = { whole_truth };
 
@@ -38,10 +38,6 @@ impl Kind for Whole {
     ghost back = { λ v bs e. WholeKindLemmas.back v bs e };
 
     ghost there = { λ v ts e. WholeKindLemmas.there v ts (tagged_part 110 ts) refl e };
-
-    fn nil() -> Whole {
-        Self::ZERO
-    }
 
     fn is_true(self) -> bool {
         self.value != 0

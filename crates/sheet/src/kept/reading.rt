@@ -16,7 +16,7 @@ impl<K: Kind> Sheet<K> {
     pub fn new() -> Sheet<K>
         ensures { content result ≡ nothing }
     {
-        let zero = K::nil();
+        let zero = K::ZERO;
         let cell = Cell {
             mode: Mode::Protected,
             value: zero,

@@ -3,4 +3,4 @@ use Rattle.engine.specs.Restoring.{restored}
 use Rattle.engine.proofs.rows.restore.Given as goal
 
 abbrev pub invariant-loop-c : goal.invariant-loop-c
-invariant-loop-c g l = l.slice ≡ restored l.t g.K.Kind.nought l.board.owners l.initial.slice l.c
+invariant-loop-c g l = l.slice ≡ restored l.t g.K.Kind.ZERO l.board.owners l.initial.slice l.c

@@ -1,5 +1,5 @@
 use Rattle.std.proofs.Common.{◌≡◌, arith, rules}
-use Rattle.station.proofs.Layings.{blanked_none, blanked_more}
+use Rattle.board.proofs.Layings.{blanked_none, blanked_more}
 use Rattle.station.proofs.laying.blank.Goals as goal
 
 pub loop-i-init : goal.loop-i-init

@@ -1,6 +1,6 @@
 use Rattle.std.proofs.Common.{◌+◌, ◌≤◌, length, ◌∙◌, arith}
-use Rattle.station.specs.Laying.{itself}
-use Rattle.station.proofs.Layings.{laid_put, laid_past, laid_all}
+use Rattle.board.specs.Laying.{itself}
+use Rattle.board.proofs.Layings.{laid_put, laid_past, laid_all}
 use Rattle.station.proofs.laying.lay.Goals as goal
 use Rattle.station.proofs.laying.lay.Goals.{then-start-slice+then-i-slice, else-start-slice, else-start-slice-via-then-start-slice+else-i-slice, else-start-slice-via-else-start-slice}
 

@@ -1,5 +1,5 @@
 use Rattle.std.proofs.Common.{◌≡◌, take}
-use Rattle.station.specs.Laying.{laid, itself}
+use Rattle.board.specs.Laying.{laid, itself}
 use Rattle.station.proofs.laying.lay.Given as goal
 
 abbrev pub invariant-loop-i : goal.invariant-loop-i

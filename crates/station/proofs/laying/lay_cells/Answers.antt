@@ -1,6 +1,6 @@
 use Rattle.std.proofs.Common.{◌+◌, ◌≤◌, length, ◌∙◌, arith}
 use Rattle.station.specs.Sheets.{cell_value}
-use Rattle.station.proofs.Layings.{laid_put_first, laid_past, laid_all}
+use Rattle.board.proofs.Layings.{laid_put_first, laid_past, laid_all}
 use Rattle.station.proofs.laying.lay_cells.Goals as goal
 use Rattle.station.proofs.laying.lay_cells.Goals.{then-i-slice, else-i-slice}
 

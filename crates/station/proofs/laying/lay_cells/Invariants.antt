@@ -1,5 +1,5 @@
 use Rattle.std.proofs.Common.{◌≡◌, take}
-use Rattle.station.specs.Laying.{laid}
+use Rattle.board.specs.Laying.{laid}
 use Rattle.station.specs.Sheets.{cell_value}
 use Rattle.station.proofs.laying.lay_cells.Given as goal
 

@@ -1,6 +1,6 @@
 use Rattle.std.proofs.Common.{◌+◌, ◌≤◌, length, ap, ◌∙◌, arith, length-set}
 use Rattle.station.specs.Sheets.{cell_mode}
-use Rattle.station.proofs.Layings.{laid_put_first, laid_past, laid_all}
+use Rattle.board.proofs.Layings.{laid_put_first, laid_past, laid_all}
 use Rattle.station.proofs.laying.modes_of.Goals as goal
 use Rattle.station.proofs.laying.modes_of.Goals.{then-i-lt64, else-i-lt64}
 

@@ -1,6 +1,6 @@
 use Rattle.std.proofs.Common.{◌≡◌, length, take, replicate}
 use Rattle.program.specs.declared.Mode.TheVariants.{Protected}
-use Rattle.station.specs.Laying.{laid}
+use Rattle.board.specs.Laying.{laid}
 use Rattle.station.specs.Sheets.{cell_mode}
 use Rattle.station.proofs.laying.modes_of.Given as goal
 
