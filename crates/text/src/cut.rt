@@ -6,9 +6,5 @@ pub fn before(d: u8, bytes: &[u8]) -> usize
     ensures within { result ≤ length bytes.now }
     ensures value { result ≡ prefix_len (λ b. not (b == d)) bytes.now }
 {
-    let mut n = 0;
-    while n < bytes.len() && bytes[n] != d {
-        n += 1;
-    }
-    n
+    bytes.iter().take_while(|b| **b != d).count()
 }
