@@ -8,16 +8,14 @@ use super::Sheet;
 use crate::operations::op_line;
 use crate::parts::{Cell, LineFault};
 use program::{Mode, Op};
-use text::{Token, framed, lex, number};
+use text::{framed, lex, number};
 use value::{Fault, Kind};
 
 // The value in a value's place, by the kind's own reader of its tokens.
 fn value_in<K: Kind>(place: &[u8]) -> Result<K, Fault>
     ensures { result ≡ K.Kind.reads (tokens place.now) }
 {
-    let mut tokens = [Token::End; 24];
-    let n = lex(place, &mut tokens);
-    K::read(&tokens[0..n])
+    K::read(lex(place).as_slice())
 }
 
 impl<K: Kind> Sheet<K> {
