@@ -1,7 +1,7 @@
 use Rattle.std.proofs.Common.{Bool, true, false, cond, ◌||◌, eqb, get_or, refl, ap, ◌∙◌, arith}
 use Rattle.book.specs.Marked.{reads, marked}
 use Rattle.book.proofs.Changes.{is_noting}
-use Rattle.book.proofs.Marking.{and_comm}
+use Rattle.std.proofs.Math.Bool.{and_comm}
 use Rattle.book.proofs.Tables.{get_or-set, at_place}
 use Rattle.book.proofs.marks.MarksBook.note.Goals as goal
 

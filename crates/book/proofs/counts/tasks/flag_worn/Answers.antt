@@ -1,6 +1,6 @@
 use Rattle.std.proofs.Common.{rules}
 use Rattle.book.proofs.Any.{any_none, any_more}
-use Rattle.book.proofs.counts.calls.flag_worn.Goals as goal
+use Rattle.book.proofs.counts.tasks.flag_worn.Goals as goal
 
 pub loop-c-init : goal.loop-c-init
 loop-c-init c = search (rules, any_none)
