@@ -1,5 +1,5 @@
 -- An array that is made by a call at each index. Assumes nothing.
-use Rattle.std.proofs.Common.{◌≡◌, ℕ, zero, suc, ◌+◌, ◌<◌, ◌≤◌, List, get_or, sym, refl, ◌∙◌, subst, ⊎_elim, arith}
+use Rattle.std.proofs.Common.{◌≡◌, ℕ, zero, suc, ◌+◌, ◌<◌, ◌≤◌, List, length, get_or, ext_get_or, sym, refl, ◌∙◌, subst, ⊎_elim, arith}
 use denote.Param.Members.{Mut, Called}
 use Rattle.std.specs.Array.{IsFromFnResult, IsFromFnResultFrom}
 use Rattle.std.proofs.lemmas.List.{get_or_past}
@@ -26,3 +26,9 @@ module _ {F B : Type 0} (g : Mut F (ℕ × Unit {0}) B) (f : F) (h : ℕ → B) 
       (λ (lt : k < n). made_at n made k lt)
       (λ (le : n ≤ k). get_or_past ys k d (let long = made.long in omega arith) ∙ sym (past k le))
       (cases_lt k n)
+
+  -- the list that has h at each index
+  pub made_list : (n : ℕ) (zs : List B) → IsFromFnResult g f ys n → length zs ≡ n → ((k : ℕ) → k < n → get_or zs k d ≡ h k) → ys ≡ zs
+  made_list n zs made long at =
+      let same_length : length ys ≡ length zs = made.long ∙ sym long in
+      ext_get_or d ys zs same_length (λ k lt. let below : k < n = (let e = made.long in omega arith) in made_at n made k below ∙ sym (at k below))

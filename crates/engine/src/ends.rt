@@ -54,9 +54,9 @@ impl<B: Book> Engine<B> {
             return Err(StepFault::Stale);
         }
         let own = self.board.rows[t].own;
-        if !self.board.deliver(&own) {
-            return Err(StepFault::TooManyOwed);
-        }
+        self.board
+            .deliver(&own)
+            .map_err(|_| StepFault::TooManyOwed)?;
         self.close(t, next);
         Ok(())
     }
