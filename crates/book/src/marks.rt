@@ -68,7 +68,7 @@ impl Book for Marks {
 
     ghost left = { always };
 
-    // kept: `t < 16` and no `get_mut`: no clause says what an array holds after a write through that.
+    // kept: `t < 16` and no `get_mut`: no clause says what an array holds after a write through it.
     fn begin(&mut self, t: usize) {
         if t < 16 {
             strike(&mut self.readers, t);

@@ -33,6 +33,7 @@ impl Book for Counts {
 
     ghost left = { remaining };
 
+    // kept: `t < 16` and no `get_mut`, as in `marks`.
     fn begin(&mut self, t: usize) {
         if t < 16 {
             self.tasks[t] = Task::begun();

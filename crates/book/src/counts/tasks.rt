@@ -66,9 +66,8 @@ fn flag_readers(tasks: &mut [Task; 16], c: usize)
 pub(super) fn flag_worn(tasks: &mut [Task; 16], cells: &[bool; 64], commits: &[u8; 64])
     ensures { (u : ℕ) → task_at tasks.new u ≡ flagging (worn (task_at tasks.old u).first cells.now commits.now) (task_at tasks.old u) }
 {
-    // kept: by index, since c names the cell in three tables.
-    for c in 0..64 {
-        if cells[c] && commits[c] == 255 {
+    for (c, &count) in commits.iter().enumerate() {
+        if cells[c] && count == 255 {
             flag_readers(tasks, c);
         }
     }
