@@ -38,8 +38,8 @@ module _ {V : Type 0} (k : Meaning V) (p : Program V) {s₀ : State V} (sep : Se
   kept_where (undo t l o at) = kept-undo k p inv t l o at
   kept_where (rest none) = kept-rest k p inv none
 
-pub kept-stands : {V : Type 0} (k : Meaning V) → Kept k
-kept-stands k p s₀ m n sep inv v =
+pub kept_stands : {V : Type 0} (k : Meaning V) → Kept k
+kept_stands k p s₀ m n sep inv v =
     let shift = shifts_stands k p sep inv v in
     (kept_where k p sep inv v (onward k p shift.0 inv.reach), shift)
 
