@@ -1,21 +1,19 @@
 -- A fragment that waits for ever lets no event occur, so that nobody is asked to keep separation.
 use Rattle.std.proofs.Common.{◌≡◌, ℕ, zero, suc, true, ℤ, Some, sym, refl, subst}
-use mathlib.Core.Bool.{false≢true}
+use Rattle.std.proofs.lemmas.Bool.{false≢true, and_parts}
 use Rattle.machine.specs.Effect.{Local, asked}
 use Rattle.machine.specs.Strong.{Phase, idle, ready, active, outside, State, fragment, Event, admits, opens, runs, mode_of, given, quiet, event, Reaches, here, more}
 use Rattle.machine.specs.Separation.{Access, may, Touches}
 use Rattle.machine.specs.Sample.{numbers}
 use Rattle.machine.specs.Waiting.{blocking, blocked, standing, Unasked}
-use Rattle.machine.proofs.Events.{none_some}
-use Rattle.machine.proofs.Quiet.{and_right}
 use Rattle.machine.proofs.Inverts.{when_true, occurred}
 use Rattle.machine.proofs.HandoverFacts.{no_third}
 
 stuck : (e : Event) {n : State ℤ} → event numbers blocking e blocked ≡ Some n → ⊥
-stuck (admits t) is = false≢true (and_right (given blocking t) _ (when_true _ _ is).0)
-stuck (opens t) is = false≢true (and_right (given blocking t) _ (when_true _ _ is).0)
-stuck (runs zero) is = none_some is
-stuck (runs (suc zero)) is = none_some is
+stuck (admits t) is = false≢true (and_parts (given blocking t) _ (when_true _ _ is).0).1
+stuck (opens t) is = false≢true (and_parts (given blocking t) _ (when_true _ _ is).0).1
+stuck (runs zero) is = cc
+stuck (runs (suc zero)) is = cc
 stuck (runs (suc (suc t))) {n} is = no_third t (occurred numbers blocking blocked n (runs (suc (suc t))) is).known
 
 stays : {s : State ℤ} → Reaches numbers blocking blocked s → s ≡ blocked

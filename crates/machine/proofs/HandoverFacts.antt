@@ -1,13 +1,13 @@
 -- A small set of facts about the handover that every event keeps.
-use Rattle.std.proofs.Common.{◌≡◌, ℕ, zero, suc, ◌<◌, Bool, true, false, cond, ℤ, pos, Some, None, sym, refl, ap, ◌∙◌, subst, true≢false, arith, ltb→lt}
+use Rattle.std.proofs.Common.{◌≡◌, ℕ, zero, suc, ◌<◌, Bool, true, false, cond, ℤ, pos, Some, None, sym, refl, ap, ◌∙◌, subst, arith}
+use Rattle.std.proofs.lemmas.Bool.{true≢false, ltb-true}
+use Rattle.std.proofs.lemmas.Option.{same_Some}
 use Rattle.program.specs.declared.Mode.{Mode}
 use Rattle.program.specs.declared.Mode.TheVariants.{Protected, Unprotected}
 use Rattle.machine.specs.Effect.{Local}
 use Rattle.machine.specs.Strong.{Phase, idle, ready, active, outside, State, Event, admits, opens, runs, is_active, placed, opened, ran, given, quiet, event, Reaches, here, more}
 use Rattle.machine.specs.Sample.{numbers}
 use Rattle.machine.specs.Handover.{handover, start}
-use Rattle.machine.proofs.Updates.{true→T}
-use Rattle.machine.proofs.Events.{some_same, none_some}
 use Rattle.machine.proofs.Quiet.{quiet_each}
 use Rattle.machine.proofs.Inverts.{when_true, admit_is, occurred}
 
@@ -55,7 +55,7 @@ adder-off ph m m' (Adder.writes r e g) off = absurd (true≢false (sym (ap is_ac
 adder-off ph m m' (Adder.ends r e) off = Adder.ends r e
 
 pub no_third : (t : ℕ) → given handover (suc (suc t)) ≡ true → ⊥
-no_third t g = let h : suc (suc t) < 2 = ltb→lt (suc (suc t)) 2 (true→T _ g) in omega arith
+no_third t g = let h : suc (suc t) < 2 = ltb-true (suc (suc t)) 2 g in omega arith
 
 -- past the test: where the cell is no longer shared, the adder goes to its end
 adder_tested : (r : ℕ → ℤ) (b : Bool) (m : Mode) → (m ≡ Unprotected → b ≡ false) → Adder (active (cond b (at 2 r) (at 5 r))) m
@@ -66,7 +66,7 @@ adder_tested r false m h = Adder.ends r refl
 module _ (s n : State ℤ) (good : Good s) where
   -- n is what came of an event that gave m
   became : (m : State ℤ) → Good m → Some m ≡ Some n → Good n
-  became m g is = subst Good (some_same is) g
+  became m g is = subst Good (same_Some _ _ is) g
 
   -- the same, of a driver's operation
   drove : (m : State ℤ) → (quiet handover s ≡ true → Good m) → cond (quiet handover s) (Some m) None ≡ Some n → Good n
@@ -83,8 +83,8 @@ module _ (s n : State ℤ) (good : Good s) where
   Ran t ph = ran numbers handover s t ph ≡ Some n
 
   taker-runs : Taker (s.phase 0) (s.cell 0) (s.mode 1) → Ran 0 (s.phase 0) → Good n
-  taker-runs (Taker.rests e) is = absurd (none_some (subst (Ran 0) e is))
-  taker-runs (Taker.waits r e) is = absurd (none_some (subst (Ran 0) e is))
+  taker-runs (Taker.rests e) is = cc
+  taker-runs (Taker.waits r e) is = cc
   taker-runs (Taker.loads r e) is = became _ (taker_to _ (Taker.clears _ refl refl)) (subst (Ran 0) e is)
   taker-runs (Taker.clears r e z) is =
       became _ (record { flag_shared = good.flag_shared; flag_clear = λ _. z; taker = Taker.leaves r refl z; adder = good.adder }) (subst (Ran 0) e is)
@@ -102,8 +102,8 @@ module _ (s n : State ℤ) (good : Good s) where
   taker-runs (Taker.ends r e) is = drove _ (λ _. taker_to _ (Taker.rests refl)) (subst (Ran 0) e is)
 
   adder-runs : Adder (s.phase 1) (s.mode 1) → Ran 1 (s.phase 1) → Good n
-  adder-runs (Adder.rests e) is = absurd (none_some (subst (Ran 1) e is))
-  adder-runs (Adder.waits r e) is = absurd (none_some (subst (Ran 1) e is))
+  adder-runs (Adder.rests e) is = cc
+  adder-runs (Adder.waits r e) is = cc
   adder-runs (Adder.looks r e) is = became _ (adder_to _ (Adder.tests _ refl good.flag_clear)) (subst (Ran 1) e is)
   adder-runs (Adder.tests r e z) is = became _ (adder_to _ (adder_tested r (numbers.truth (r 0)) (s.mode 1) (λ u. ap numbers.truth (z u)))) (subst (Ran 1) e is)
   adder-runs (Adder.reads r e m) is = became _ (adder_to _ (Adder.adds _ refl m)) (subst (Ran 1) e is)
@@ -116,25 +116,25 @@ module _ (s n : State ℤ) (good : Good s) where
   Opened t ph = opened s t ph ≡ Some n
 
   taker-opens : Taker (s.phase 0) (s.cell 0) (s.mode 1) → Opened 0 (s.phase 0) → Good n
-  taker-opens (Taker.rests e) is = absurd (none_some (subst (Opened 0) e is))
+  taker-opens (Taker.rests e) is = cc
   taker-opens (Taker.waits r e) is = became _ (taker_to _ (Taker.loads r refl)) (subst (Opened 0) e is)
-  taker-opens (Taker.loads r e) is = absurd (none_some (subst (Opened 0) e is))
-  taker-opens (Taker.clears r e z) is = absurd (none_some (subst (Opened 0) e is))
-  taker-opens (Taker.leaves r e z) is = absurd (none_some (subst (Opened 0) e is))
-  taker-opens (Taker.takes r e z) is = absurd (none_some (subst (Opened 0) e is))
-  taker-opens (Taker.loads_more r e m) is = absurd (none_some (subst (Opened 0) e is))
-  taker-opens (Taker.writes r e m) is = absurd (none_some (subst (Opened 0) e is))
-  taker-opens (Taker.ends r e) is = absurd (none_some (subst (Opened 0) e is))
+  taker-opens (Taker.loads r e) is = cc
+  taker-opens (Taker.clears r e z) is = cc
+  taker-opens (Taker.leaves r e z) is = cc
+  taker-opens (Taker.takes r e z) is = cc
+  taker-opens (Taker.loads_more r e m) is = cc
+  taker-opens (Taker.writes r e m) is = cc
+  taker-opens (Taker.ends r e) is = cc
 
   adder-opens : Adder (s.phase 1) (s.mode 1) → Opened 1 (s.phase 1) → Good n
-  adder-opens (Adder.rests e) is = absurd (none_some (subst (Opened 1) e is))
+  adder-opens (Adder.rests e) is = cc
   adder-opens (Adder.waits r e) is = became _ (adder_to _ (Adder.looks r refl)) (subst (Opened 1) e is)
-  adder-opens (Adder.looks r e) is = absurd (none_some (subst (Opened 1) e is))
-  adder-opens (Adder.tests r e z) is = absurd (none_some (subst (Opened 1) e is))
-  adder-opens (Adder.reads r e m) is = absurd (none_some (subst (Opened 1) e is))
-  adder-opens (Adder.adds r e m) is = absurd (none_some (subst (Opened 1) e is))
-  adder-opens (Adder.writes r e m) is = absurd (none_some (subst (Opened 1) e is))
-  adder-opens (Adder.ends r e) is = absurd (none_some (subst (Opened 1) e is))
+  adder-opens (Adder.looks r e) is = cc
+  adder-opens (Adder.tests r e z) is = cc
+  adder-opens (Adder.reads r e m) is = cc
+  adder-opens (Adder.adds r e m) is = cc
+  adder-opens (Adder.writes r e m) is = cc
+  adder-opens (Adder.ends r e) is = cc
 
   -- each event of each of the two tasks
   kept : (e : Event) → event numbers handover e s ≡ Some n → Good n
@@ -156,5 +156,5 @@ pub always : {s : State ℤ} → Reaches numbers handover start s → Good s
 always here = record { flag_shared = refl; flag_clear = λ e. absurd (apart e); taker = Taker.rests refl; adder = Adder.rests refl }
   where
     apart : Protected ≡ Unprotected → ⊥
-    apart e = let z : ◌≡◌ {A = ℕ} 0 1 = cc in omega arith
+    apart e = cc
 always (more {m = m} {n = n} e way is) = kept m n (always way) e is

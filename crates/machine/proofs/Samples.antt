@@ -1,6 +1,7 @@
 -- The two-task programs: computed, and the careless ones refuted.
 use Rattle.std.proofs.Common.{◌≡◌, List, [], ◌∷◌, ℤ, Some, None, Option, refl, subst}
-use mathlib.Core.Bool.{false≢true}
+use Rattle.std.proofs.lemmas.Bool.{false≢true}
+use Rattle.std.proofs.lemmas.Option.{same_Some}
 use Rattle.std.specs.Int.{int_wrap}
 use Rattle.program.specs.declared.Op.{Op}
 use Rattle.program.specs.declared.Op.TheVariants.{Read, Write}
@@ -9,14 +10,13 @@ use Rattle.machine.specs.Strong.{State, Event, admits, opens, runs, Reaches, her
 use Rattle.machine.specs.Separation.{reading, writing}
 use Rattle.machine.specs.Sample.{numbers, occurs, plays}
 use Rattle.machine.specs.Handover.{start, handover, taker, adder, careless, blind, program, taker_first, adder_first, Taken, Added, Broken}
-use Rattle.machine.proofs.Events.{some_same, none_some}
 
 module _ (p : Program ℤ) (s₀ : State ℤ) where
   abbrev Led : Option (State ℤ) → Type 0
   Led o = (n : State ℤ) → o ≡ Some n → Reaches numbers p s₀ n
 
   one_led : (e : Event) (o : Option (State ℤ)) → Led o → Led (occurs p e o)
-  one_led e None led n is = absurd (none_some is)
+  one_led e None led n is = cc
   one_led e (Some m) led n is = more e (led m refl) is
 
   all_led : (es : List Event) (o : Option (State ℤ)) → Led o → Led (plays p es o)
@@ -25,7 +25,7 @@ module _ (p : Program ℤ) (s₀ : State ℤ) where
 
   -- what events, played, come to is reached
   pub reached : (es : List Event) (n : State ℤ) → plays p es (Some s₀) ≡ Some n → Reaches numbers p s₀ n
-  reached es = all_led es (Some s₀) (λ n is. subst (Reaches numbers p s₀) (some_same is) here)
+  reached es = all_led es (Some s₀) (λ n is. subst (Reaches numbers p s₀) (same_Some _ _ is) here)
 
 abbrev got : Option (State ℤ) → State ℤ
 got None = start

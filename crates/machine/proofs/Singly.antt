@@ -1,9 +1,9 @@
 -- Never are two tasks active at once.
-use Rattle.std.proofs.Common.{◌≡◌, ℕ, true, eqb, Some, sym, ap, ◌∙◌, inl, inr, true≢false}
+use Rattle.std.proofs.Common.{◌≡◌, ℕ, true, eqb, Some, sym, ap, ◌∙◌, inl, inr}
+use Rattle.std.proofs.lemmas.Bool.{true≢false, cases_Bool, eqb-true}
 use Rattle.machine.specs.Effect.{Meaning, Program}
 use Rattle.machine.specs.Strong.{State, Event, is_active, given, quiet, event, Reaches, here, more}
 use Rattle.machine.specs.MachineLaws.{OneAtATime}
-use Rattle.machine.proofs.Updates.{upd_other, eqb-true, decide}
 use Rattle.machine.proofs.Quiet.{quiet_each}
 use Rattle.machine.proofs.Inverts.{Occurred, occurred, task_of}
 
@@ -17,9 +17,9 @@ module _ {V : Type 0} (k : Meaning V) (p : Program V) where
   -- after an event only its own task may be active
   only : (s n : State V) (t : ℕ) → Single s → Occurred k p s n t → (u : ℕ) → given p u ≡ true → is_active (n.phase u) ≡ true → u ≡ t
   only s n t single o u g a =
-      elim (decide (eqb u t)) [
+      elim (cases_Bool (eqb u t)) [
         | inl same ↦ eqb-true u t same
-        | inr other ↦ (let before : is_active (s.phase u) ≡ true = sym (ap (λ f. is_active (f u)) o.moves ∙ ap is_active (upd_other s.phase t o.to u other)) ∙ a in
+        | inr other ↦ (let before : is_active (s.phase u) ≡ true = sym (ap is_active (o.others u other)) ∙ a in
             elim o.turn [
               | inl q ↦ absurd (true≢false (sym before ∙ quiet_each p s q u g))
               | inr at ↦ single u t g o.known before at

@@ -3,7 +3,6 @@ use Rattle.std.proofs.Common.{refl}
 use Rattle.std.specs.Int.{int_wrap}
 use Rattle.machine.specs.Strong.{Side, fragment, driver}
 use Rattle.machine.specs.Table.{BothSides, OneSide, Turns, Tabulated}
-use Rattle.machine.proofs.Events.{none_some}
 
 both_sides : (side : Side) → BothSides side
 unfolding int_wrap
@@ -66,7 +65,7 @@ by_turns = record {
   runs_ready = refl;
   runs_unknown = refl;
   runs_meanwhile = refl;
-  ready_faces_none = λ place cause. none_some;
+  ready_faces_none = λ place cause h. cc;
 }
 
 pub tabulated : Tabulated

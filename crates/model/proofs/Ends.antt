@@ -1,16 +1,16 @@
 -- A commit, an undo and the rest of the book keep the invariant.
-use Rattle.std.proofs.Common.{◌≡◌, ℕ, Bool, true, false, ◌||◌, eqb, sym, refl, ◌∙◌, inl, inr, true≢false}
+use Rattle.std.proofs.Common.{◌≡◌, ℕ, Bool, true, false, ◌||◌, eqb, sym, refl, ◌∙◌, inl, inr}
+use Rattle.std.proofs.lemmas.Bool.{true≢false, cases_Bool, or_parts}
 use Rattle.program.specs.declared.Mode.TheVariants.{Protected}
 use Rattle.book.specs.Seen.{begun, finished, rested, meets, a_task, a_cell}
 use Rattle.machine.specs.Effect.{Meaning, Program, Local}
 use Rattle.machine.specs.Strong.{State, given, Reaches}
-use Rattle.machine.proofs.Updates.{decide}
 use Rattle.board.specs.Boards.{mine}
 use Rattle.model.specs.Model.{Stage, waiting, inside, Model, is_inside, before, undone}
 use Rattle.model.specs.Moves.{held, freed, moved, told, released, restored, committed}
 use Rattle.model.specs.Inv.{Inv}
 use Rattle.model.proofs.Points.{commit_same, commit_others, undo-before, undo_others, mine-held, freed_own, freed-held}
-use Rattle.model.proofs.Notes.{or_false_left, or_false_right, apart, begun-noted_other, begun-stale_other, finished-noted_other, finished-stale_other}
+use Rattle.model.proofs.Notes.{apart, begun-noted_other, begun-stale_other, finished-noted_other, finished-stale_other}
 use Rattle.model.proofs.Facts.{known_at}
 use Rattle.model.proofs.Keeping.{no_run, kept_by}
 
@@ -37,7 +37,7 @@ module _ {V : Type 0} (k : Meaning V) (p : Program V) {s₀ : State V} {m : Mode
     unmet : (u : ℕ) → meets (m.seen.noted u) its ≡ false → (c : ℕ) → m.seen.noted u c ≡ true
         → before (freed t (m.owner c)) (m.saved c) (m.cell c) ≡ before (m.owner c) (m.saved c) (m.cell c)
     unmet u none c noted =
-        elim (decide (mine t (m.owner c))) [
+        elim (cases_Bool (mine t (m.owner c))) [
           | inl own ↦ absurd (true≢false (sym own ∙ apart (m.seen.noted u) its none c (inv.ranged c (mine-held t (m.owner c) own)) noted))
           | inr not_own ↦ commit_same t (m.owner c) (m.saved c) (m.cell c) not_own
         ]
@@ -48,8 +48,8 @@ module _ {V : Type 0} (k : Meaning V) (p : Program V) {s₀ : State V} {m : Mode
           logs = λ u ne c. commit_others t (m.owner c) (m.saved c) (m.cell c) u ne;
           notes = λ u ne. finished-noted_other m.seen t u ne its;
           calls = λ u ne. refl;
-          fresh = λ u ne f. or_false_left (m.seen.stale u) (meets (m.seen.noted u) its) (now u ne ∙ f);
-          agrees = λ u ne w f. unmet u (or_false_right (m.seen.stale u) (meets (m.seen.noted u) its) (now u ne ∙ f));
+          fresh = λ u ne f. (or_parts _ _ (now u ne ∙ f)).0;
+          agrees = λ u ne w f. unmet u (or_parts _ _ (now u ne ∙ f)).1;
         })
         guards ranges (owns_none_now st) (no_run k p (committed m t st) t st over)
       where

@@ -1,6 +1,6 @@
 -- What the invariant says of one task: who it is, its run, and under separation which cells it may touch.
-use Rattle.std.proofs.Common.{◌≡◌, ℕ, true, false, sym, refl, ap, ◌∙◌, subst, inl, inr, true≢false}
-use mathlib.Core.Bool.{false≢true}
+use Rattle.std.proofs.Common.{◌≡◌, ℕ, true, false, sym, refl, ap, ◌∙◌, subst, inl, inr}
+use Rattle.std.proofs.lemmas.Bool.{true≢false, false≢true, cases_Bool}
 use Rattle.program.specs.declared.Mode.{Mode}
 use Rattle.program.specs.declared.Mode.TheVariants.{Protected, Unprotected}
 use Rattle.book.specs.Seen.{a_task}
@@ -8,7 +8,6 @@ use Rattle.machine.specs.Effect.{Meaning, Program, Local, Effect, asked}
 use Rattle.machine.specs.Strong.{State, fragment, driver, given}
 use Rattle.machine.specs.Separation.{Access, reading, writing, may, Touches, Separated}
 use Rattle.machine.specs.Fragment.{Run}
-use Rattle.machine.proofs.Updates.{decide}
 use Rattle.machine.proofs.Passing.{own_side_stands}
 use Rattle.board.specs.Boards.{mine}
 use Rattle.model.specs.Model.{Stage, off, waiting, inside, out, Model, is_inside, settled, undone}
@@ -30,11 +29,11 @@ module _ {V : Type 0} {k : Meaning V} {p : Program V} {s₀ : State V} {m : Mode
 
   -- a task that is not inside owns nothing
   pub owns_none : is_inside (m.stage t) ≡ false → (c : ℕ) → mine t (m.owner c) ≡ false
-  owns_none not_in c = elim (decide (mine t (m.owner c))) [ inl h ↦ absurd (true≢false (sym (inv.owners t c h) ∙ not_in)) | inr h ↦ h ]
+  owns_none not_in c = elim (cases_Bool (mine t (m.owner c))) [ inl h ↦ absurd (true≢false (sym (inv.owners t c h) ∙ not_in)) | inr h ↦ h ]
 
   -- a cell that drivers may touch is not owned
   pub unowned : (a : Access) (c : ℕ) → may driver a (m.mode c) ≡ true → held (m.owner c) ≡ false
-  unowned a c lawful = elim (decide (held (m.owner c))) [ inl h ↦ absurd (false≢true (sym (ap (may driver a) (inv.guarded c h)) ∙ lawful)) | inr h ↦ h ]
+  unowned a c lawful = elim (cases_Bool (held (m.owner c))) [ inl h ↦ absurd (false≢true (sym (ap (may driver a) (inv.guarded c h)) ∙ lawful)) | inr h ↦ h ]
 
   module _ (sep : Separated k p s₀) where
     -- what a transaction that is not stale has noted is on the fragments' side

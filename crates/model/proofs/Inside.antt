@@ -1,5 +1,6 @@
 -- Opening a transaction, and each operation inside it, keep the invariant.
 use Rattle.std.proofs.Common.{◌≡◌, ℕ, Bool, true, false, ◌||◌, eqb, Some, None, Option, sym, refl, ap, ◌∙◌, subst, subst₂}
+use Rattle.std.proofs.lemmas.Bool.{or_parts}
 use mathlib.Core.Path.{fun_ext}
 use Rattle.program.specs.declared.Mode.TheVariants.{Protected}
 use Rattle.book.specs.Seen.{begun, noting, a_task, a_cell}
@@ -13,7 +14,7 @@ use Rattle.model.specs.Model.{waiting, inside, Model, is_inside, undone}
 use Rattle.model.specs.Moves.{held, moved, told, stored, taken, counting}
 use Rattle.model.specs.Inv.{footprint, Inv}
 use Rattle.model.proofs.Points.{take-before, take-written, take_others, write-before, write-written, write_others, own_value, not_written}
-use Rattle.model.proofs.Notes.{or_false_left, or_false_right, begun-noted, noting-noted, noting-stale, begun-noted_other, begun-stale_other, noting-noted_other, noting-stale_other}
+use Rattle.model.proofs.Notes.{begun-noted, noting-noted, noting-stale, begun-noted_other, begun-stale_other, noting-noted_other, noting-stale_other}
 use Rattle.model.proofs.Facts.{known_at, run_at, owns_none}
 use Rattle.model.proofs.Keeping.{kept_by}
 
@@ -75,9 +76,9 @@ module _ {V : Type 0} (k : Meaning V) (p : Program V) {s₀ : State V} {m : Mode
         -- no other task owns the cell, so what was read is what the run sees
         run : (m.seen.stale t || taken_by) ≡ false → Run k p t (undone m).cell o (loaded l d (m.cell c)) (footprint n t)
         run f = subst₂ (λ v noted. Run k p t (undone m).cell o (loaded l d v) (record { log = (footprint m t).log; noted = noted; calls = m.own t }))
-            (own_value t (m.owner c) (m.saved c) (m.cell c) (or_false_right (m.seen.stale t) taken_by f))
+            (own_value t (m.owner c) (m.saved c) (m.cell c) (or_parts (m.seen.stale t) taken_by f).1)
             (sym (noting-noted m.seen t who.1 c taken_by a))
-            (read d c (run_at inv t l o at (or_false_left (m.seen.stale t) taken_by f)) asks)
+            (read d c (run_at inv t l o at (or_parts (m.seen.stale t) taken_by f).0) asks)
 
     pub kept-start_in : (u : ℕ) → asked k p t l ≡ starts u → Kept (moved (counting m t (one_more (m.own t) u)) t (inside (next l) o))
     kept-start_in u asks = kept_by k p inv (moved (counting m t (one_more (m.own t) u)) t (inside (next l) o)) t (inside (next l) o) refl who

@@ -3,10 +3,11 @@ use Rattle.std.proofs.Common.{◌≡◌, ℕ, true, false, eqb, sym, refl, ap, �
 use mathlib.Core.Path.{fun_ext}
 use Rattle.program.specs.declared.Mode.TheVariants.{Protected}
 use Rattle.book.specs.Seen.{a_task, a_cell}
+use Rattle.std.specs.Option.{is_some}
 use Rattle.machine.specs.Update.{upd}
 use Rattle.machine.specs.Effect.{Meaning, Program}
 use Rattle.machine.specs.Strong.{State, given, Reaches}
-use Rattle.machine.specs.Fragment.{is_there, Run}
+use Rattle.machine.specs.Fragment.{Run}
 use Rattle.machine.proofs.Updates.{split, upd_same, upd_other}
 use Rattle.machine.proofs.Frames.{reframed}
 use Rattle.board.specs.Boards.{mine}
@@ -32,7 +33,7 @@ module _ {V : Type 0} where
     -- so it owns what it owned
     same_owned : (c : ℕ) → mine u (n.owner c) ≡ true → mine u (m.owner c) ≡ true
     same_owned c own =
-        sym (written-mine u (m.owner c) (m.saved c) (m.cell c)) ∙ sym (ap is_there (apart.logs u ne c)) ∙ written-mine u (n.owner c) (n.saved c) (n.cell c) ∙ own
+        sym (written-mine u (m.owner c) (m.saved c) (m.cell c)) ∙ sym (ap is_some (apart.logs u ne c)) ∙ written-mine u (n.owner c) (n.saved c) (n.cell c) ∙ own
 
   module _ (k : Meaning V) (p : Program V) where
     -- nothing is to show of a task that is not inside

@@ -1,26 +1,16 @@
 -- What a book's calls do to the notes of the calling task, and to those of the others.
-use Rattle.std.proofs.Common.{◌≡◌, ℕ, Bool, true, false, ◌&&◌, ◌||◌, eqb, sym, refl, ◌∙◌, inl, inr, true≢false, arith, ltb→lt}
+use Rattle.std.proofs.Common.{◌≡◌, ℕ, Bool, true, false, ◌&&◌, ◌||◌, eqb, sym, ◌∙◌, inl, inr, arith}
+use Rattle.std.proofs.lemmas.Bool.{true≢false, cases_Bool, ltb-true, and_from}
 use Rattle.book.specs.Seen.{Seen, begun, noting, finished, meets, a_task, a_cell}
 use Rattle.book.proofs.Any.{any_at}
 use Rattle.machine.specs.Update.{upd}
-use Rattle.machine.proofs.Updates.{upd_same, upd_other, decide, true→T}
-
-pub or_false_left : (a b : Bool) → (a || b) ≡ false → a ≡ false
-or_false_left true b e = e
-or_false_left false b e = refl
-
-pub or_false_right : (a b : Bool) → (a || b) ≡ false → b ≡ false
-or_false_right true b e = absurd (true≢false e)
-or_false_right false b e = e
-
-pub both : (a b : Bool) → a ≡ true → b ≡ true → (a && b) ≡ true
-both a b x y = grind arith
+use Rattle.machine.proofs.Updates.{upd_same, upd_other}
 
 -- two sets that do not meet share no cell
 pub apart : (noted set : ℕ → Bool) → meets noted set ≡ false → (c : ℕ) → a_cell c ≡ true → noted c ≡ true → set c ≡ false
 apart noted set none c a n =
-    elim (decide (set c)) [
-      | inl s ↦ absurd (true≢false (sym (any_at (λ i. set i && noted i) 64 c (ltb→lt c 64 (true→T _ a)) (both _ _ s n)) ∙ none))
+    elim (cases_Bool (set c)) [
+      | inl s ↦ absurd (true≢false (sym (any_at (λ i. set i && noted i) 64 c (ltb-true c 64 a) (and_from _ _ s n)) ∙ none))
       | inr s ↦ s
     ]
 

@@ -1,7 +1,7 @@
 -- What each call does to one cell: to its undone value, and to what a task has written there.
 use Rattle.std.proofs.Common.{◌≡◌, ℕ, true, false, cond, eqb, Some, None, Option, arith}
+use Rattle.std.specs.Option.{is_some, unwrap_or}
 use Rattle.machine.specs.Update.{upd}
-use Rattle.machine.specs.Fragment.{is_there, or_else}
 use Rattle.board.specs.Boards.{mine, another}
 use Rattle.model.specs.Model.{before}
 use Rattle.model.specs.Moves.{held, freed}
@@ -33,7 +33,7 @@ module _ {V : Type 0} (owner : ℕ → Option ℕ) (saved cell : ℕ → V) (t c
   direct_written free u i = grind arith
 
 module _ {V : Type 0} (t : ℕ) (o : Option ℕ) (saved now : V) where
-  pub commit_before : before (freed t o) saved now ≡ or_else (written t o now) (before o saved now)
+  pub commit_before : before (freed t o) saved now ≡ unwrap_or (written t o now) (before o saved now)
   commit_before = grind arith
 
   pub commit_same : mine t o ≡ false → before (freed t o) saved now ≡ before o saved now
@@ -49,13 +49,13 @@ module _ {V : Type 0} (t : ℕ) (o : Option ℕ) (saved now : V) where
   undo_others u ne = grind arith
 
   -- what a task reads, unless another owns the cell
-  pub own_value : another t o ≡ false → or_else (written t o now) (before o saved now) ≡ now
+  pub own_value : another t o ≡ false → unwrap_or (written t o now) (before o saved now) ≡ now
   own_value mine-or-free = grind arith
 
   pub free_before : held o ≡ false → before o saved now ≡ now
   free_before free = grind arith
 
-  pub written-mine : is_there (written t o now) ≡ mine t o
+  pub written-mine : is_some (written t o now) ≡ mine t o
   written-mine = grind arith
 
   pub not_written : mine t o ≡ false → written t o now ≡ None
