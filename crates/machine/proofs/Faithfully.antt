@@ -1,16 +1,17 @@
 -- From its opening to its end a fragment of the strong machine is a private run, and undisturbed.
-use Rattle.std.proofs.Common.{◌≡◌, ℕ, true, false, ◌&&◌, eqb, Some, sym, refl, ap, ◌∙◌, subst, inl, inr}
-use Rattle.std.proofs.lemmas.Bool.{true≢false, false≢true, cases_Bool, and_parts, eqb-true, ne_eqb}
+use Rattle.std.proofs.Common.{◌≡◌, ℕ, true, false, eqb, Some, sym, refl, ap, ◌∙◌, subst, arith}
+use Rattle.std.proofs.lemmas.Bool.{ne_eqb}
+use Rattle.std.proofs.lemmas.Bool.Decides.{nat_tests}
 use Rattle.std.proofs.lemmas.Option.{same_Some}
-use Rattle.machine.specs.Effect.{Meaning, Program, Local, next, Effect, goes, reads, writes, starts, leaves, finishes, asked}
-use Rattle.machine.specs.Strong.{idle, active, outside, State, Event, admits, opens, runs, is_active, given, quiet, event}
+use Rattle.machine.specs.Effect.{Meaning, Program, Local, Effect, goes, reads, writes, starts, leaves, finishes, asked}
+use Rattle.machine.specs.Strong.{active, State, Event, opens, runs, is_active, quiet, event}
 use Rattle.machine.specs.Fragment.{Footprint, untouched, after, Run, begin, go, read, write, call, Alone}
 use Rattle.machine.specs.MachineLaws as machine
 use Rattle.machine.specs.MachineLaws.{Stretch, Undisturbed}
 use Rattle.machine.specs.FragmentLaws.{Come, inside, left, finished, Faithful}
-use Rattle.machine.proofs.Updates.{upd_same, upd_other}
+use Rattle.machine.proofs.Updates.{upd_same}
 use Rattle.machine.proofs.Quiet.{quiet_each, not_quiet}
-use Rattle.machine.proofs.Inverts.{when_true, open_is, Occurred, occurred}
+use Rattle.machine.proofs.Inverts.{was_ready, opened_is, occurred}
 use Rattle.machine.proofs.Embeds.{stepped, after_opening, landed, ran}
 
 module _ {V : Type 0} (k : Meaning V) (p : Program V) (s : State V) (t : ℕ) where
@@ -19,14 +20,9 @@ module _ {V : Type 0} (k : Meaning V) (p : Program V) (s : State V) (t : ℕ) wh
 
   opened-run : (o : State V) → event k p (opens t) s ≡ Some o → OnRun o
   opened-run o is =
-      let w = when_true (given p t && quiet p s) _ is in
-      let b = and_parts _ _ w.0 in
-      let m = open_is k p s o t (s.phase t) w.1 in (
-        m.0,
-        untouched,
-        record { still = b.1; known = b.0; start = m.0; begins = m.1; run = begin },
-        subst (Come k p s t m.0 untouched) (sym (m.2 ∙ after_opening s t m.0)) inside,
-      )
+      let (l, at) = was_ready k p s o t (s.phase t) refl is in
+      let (known, still, now) = opened_is k p s o t l at is in
+      (l, untouched, record { still = still; known = known; start = l; begins = at; run = begin }, subst (Come k p s t l untouched) (sym (now ∙ after_opening s t l)) inside)
 
   module _ (l : Local V) (f : Footprint V) (al : Alone k p t s l f) where
     abbrev now : State V
@@ -48,47 +44,32 @@ module _ {V : Type 0} (k : Meaning V) (p : Program V) (s : State V) (t : ℕ) wh
     by_effect finishes asks is = on l f al.run (finished asks) is
     by_effect _ asks is = cc
 
-    loud : quiet p now ≡ true → ⊥
-    loud q = true≢false (sym q ∙ not_quiet p now t al.known (ap is_active (upd_same s.phase t (active l))))
+    loud : quiet p now ≡ false
+    loud = not_quiet p now t al.known (ap is_active (upd_same s.phase t (active l)))
 
     -- no task but t has a turn
-    elsewhere : {n : State V} (u : ℕ) → eqb u t ≡ false → Occurred k p now n u → ⊥
-    elsewhere u ne o =
-        elim o.turn [
-          | inl q ↦ loud q
-          | inr a ↦ true≢false (sym a ∙ ap is_active (upd_other s.phase t (active l) u ne) ∙ quiet_each p s al.still u o.known)
-        ]
+    only : (e : Event) {n : State V} → quiet p now ≡ false → event k p e now ≡ Some n → e ≡ runs t
+    only e {n} q is = let o = occurred k p now n e is in grind (arith, nat_tests, quiet_each)
 
     by_event : {n : State V} (e : Event) → event k p e now ≡ Some n → OnRun n
-    by_event (admits u) is = absurd (loud (and_parts _ _ (when_true (given p u && quiet p now) _ is).0).1)
-    by_event (opens u) is = absurd (loud (and_parts _ _ (when_true (given p u && quiet p now) _ is).0).1)
-    by_event {n} (runs u) is =
-        elim (cases_Bool (eqb u t)) [
-          | inl same ↦ by_effect (asked k p t l) refl (sym (ran k p s t al.known f l) ∙ subst (λ i. event k p (runs i) now ≡ Some n) (eqb-true u t same) is)
-          | inr ne ↦ absurd (elsewhere u ne (occurred k p now n (runs u) is))
-        ]
+    by_event {n} e is =
+        by_effect (asked k p t l) refl (sym (ran k p s t al.known f l) ∙ subst (λ x. event k p x now ≡ Some n) (only e loud is) is)
 
-  -- by how far the stretch had come
-  by_come : (l : Local V) (f : Footprint V) → Alone k p t s l f → (m n : State V) → Come k p s t l f m
-      → is_active (m.phase t) ≡ true → (e : Event) → event k p e m ≡ Some n → OnRun n
-  by_come l f al m n inside a e is = by_event l f al e is
-  by_come l f al m n (left asks) a e is = absurd (false≢true (sym (ap is_active (upd_same s.phase t (outside (next l)))) ∙ a))
-  by_come l f al m n (finished asks) a e is = absurd (false≢true (sym (ap is_active (upd_same s.phase t idle)) ∙ a))
+  come_mode : {l : Local V} {f : Footprint V} {n : State V} → Come k p s t l f n → n.mode ≡ s.mode
+  come_mode come = grind arith
+
+  come_others : {l : Local V} {f : Footprint V} {n : State V} → Come k p s t l f n → (u : ℕ) → eqb u t ≡ false → n.phase u ≡ s.phase u
+  come_others come u ne = grind arith
+
+  -- where the task is still active, the fragment is on its run
+  still_inside : {l : Local V} {f : Footprint V} {n : State V} → Come k p s t l f n → is_active (n.phase t) ≡ true → n ≡ after s t f (active l)
+  still_inside come a = grind (arith, nat_tests)
 
   stretched : {o n : State V} → event k p (opens t) s ≡ Some o → Stretch k p t o n → OnRun n
   stretched {o} is machine.here = opened-run o is
   stretched is (machine.more {m = m} {n = n} e way a was) =
-      let r = stretched is way in by_come r.0 r.1 r.2 m n r.3 a e was
-
-  come_mode : {l : Local V} {f : Footprint V} {n : State V} → Come k p s t l f n → n.mode ≡ s.mode
-  come_mode inside = refl
-  come_mode (left asks) = refl
-  come_mode (finished asks) = refl
-
-  come_others : {l : Local V} {f : Footprint V} {n : State V} → Come k p s t l f n → (u : ℕ) → eqb u t ≡ false → n.phase u ≡ s.phase u
-  come_others {l} inside u ne = upd_other s.phase t (active l) u ne
-  come_others {l} (left asks) u ne = upd_other s.phase t (outside (next l)) u ne
-  come_others (finished asks) u ne = upd_other s.phase t idle u ne
+      let (l, f, al, come) = stretched is way in
+      by_event l f al e (subst (λ x. event k p e x ≡ Some n) (still_inside come a) was)
 
 module _ {V : Type 0} (k : Meaning V) where
   pub faithful_stands : Faithful k

@@ -10,7 +10,6 @@ pub mod Inverts
 pub mod Faithfully
 pub mod Singly
 pub mod Samples
-pub mod HandoverFacts
 pub mod Keeps
 pub mod Blocks
 pub mod Tabulated

@@ -1,6 +1,7 @@
 -- Never are two tasks active at once.
-use Rattle.std.proofs.Common.{◌≡◌, ℕ, true, eqb, Some, sym, ap, ◌∙◌, inl, inr}
-use Rattle.std.proofs.lemmas.Bool.{true≢false, cases_Bool, eqb-true}
+use Rattle.std.proofs.Common.{◌≡◌, ℕ, true, Some, sym, ◌∙◌, arith}
+use Rattle.std.proofs.lemmas.Bool.{true≢false}
+use Rattle.std.proofs.lemmas.Bool.Decides.{nat_tests}
 use Rattle.machine.specs.Effect.{Meaning, Program}
 use Rattle.machine.specs.Strong.{State, Event, is_active, given, quiet, event, Reaches, here, more}
 use Rattle.machine.specs.MachineLaws.{OneAtATime}
@@ -16,15 +17,7 @@ module _ {V : Type 0} (k : Meaning V) (p : Program V) where
 
   -- after an event only its own task may be active
   only : (s n : State V) (t : ℕ) → Single s → Occurred k p s n t → (u : ℕ) → given p u ≡ true → is_active (n.phase u) ≡ true → u ≡ t
-  only s n t single o u g a =
-      elim (cases_Bool (eqb u t)) [
-        | inl same ↦ eqb-true u t same
-        | inr other ↦ (let before : is_active (s.phase u) ≡ true = sym (ap is_active (o.others u other)) ∙ a in
-            elim o.turn [
-              | inl q ↦ absurd (true≢false (sym before ∙ quiet_each p s q u g))
-              | inr at ↦ single u t g o.known before at
-            ])
-      ]
+  only s n t single o u g a = grind (arith, nat_tests, quiet_each)
 
   kept : (s n : State V) (e : Event) → Single s → event k p e s ≡ Some n → Single n
   kept s n e single is t u gt gu at au =
