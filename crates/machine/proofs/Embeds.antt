@@ -41,14 +41,15 @@ module _ {V : Type 0} (s : State V) (t : ℕ) where
     acts _ = refl
 
 -- a statement of every end of a run, by that of its start and by one case for all its operations
-pub along : {V : Type 0} (k : Meaning V) (p : Program V) (t : ℕ) (cells : ℕ → V) (start : Local V) (P : Local V → Footprint V → Type 0) → P start untouched
-    → ((l : Local V) (f : Footprint V) (to : Local V) (g : Footprint V) → Run k p t cells start l f → P l f → stepped cells f l (asked k p t l) ≡ Some (g, active to) → P to g)
-    → {l : Local V} {f : Footprint V} → Run k p t cells start l f → P l f
-along k p t cells start P base step begin = base
-along k p t cells start P base step (go {l = l} {f = f} to run asks) = step l f _ _ run (along k p t cells start P base step run) (ap (stepped cells f l) asks)
-along k p t cells start P base step (read {l = l} {f = f} to c run asks) = step l f _ _ run (along k p t cells start P base step run) (ap (stepped cells f l) asks)
-along k p t cells start P base step (write {l = l} {f = f} c v run asks) = step l f _ _ run (along k p t cells start P base step run) (ap (stepped cells f l) asks)
-along k p t cells start P base step (call {l = l} {f = f} u run asks) = step l f _ _ run (along k p t cells start P base step run) (ap (stepped cells f l) asks)
+module _ {V : Type 0} (k : Meaning V) (p : Program V) (t : ℕ) (cells : ℕ → V) (start : Local V) (P : Local V → Footprint V → Type 0) (first : P start untouched)
+    (step : (l : Local V) (f : Footprint V) (to : Local V) (g : Footprint V) → Run k p t cells start l f → P l f → stepped cells f l (asked k p t l) ≡ Some (g, active to) → P to g)
+  where
+    pub along : {l : Local V} {f : Footprint V} → Run k p t cells start l f → P l f
+    along begin = first
+    along (go {l = l} {f = f} to run asks) = step l f _ _ run (along run) (ap (stepped cells f l) asks)
+    along (read {l = l} {f = f} to c run asks) = step l f _ _ run (along run) (ap (stepped cells f l) asks)
+    along (write {l = l} {f = f} c v run asks) = step l f _ _ run (along run) (ap (stepped cells f l) asks)
+    along (call {l = l} {f = f} u run asks) = step l f _ _ run (along run) (ap (stepped cells f l) asks)
 
 module _ {V : Type 0} (k : Meaning V) (p : Program V) (s : State V) (t : ℕ) (known : given p t ≡ true) where
   -- the active task runs its operation

@@ -1,7 +1,6 @@
 -- A private run over other cells, and what a run's footprint says of the cells.
-use Rattle.std.proofs.Common.{◌≡◌, ℕ, Bool, true, false, cond, eqb, Some, None, Option, refl, subst, true≢false, arith}
+use Rattle.std.proofs.Common.{◌≡◌, ℕ, Bool, true, false, Option, subst, arith}
 use mathlib.Core.Path.{fun_ext}
-use mathlib.Core.Bool.{false≢true}
 use Rattle.std.specs.Option.{is_some, unwrap_or}
 use Rattle.machine.specs.Update.{upd}
 use Rattle.machine.specs.Effect.{Meaning, Program, Local, loaded}
@@ -15,15 +14,13 @@ noted-still n c i h = grind arith
 
 module _ {V : Type 0} where
   pub values_logged : (cells : ℕ → V) (f : Footprint V) (c : ℕ) (v : V) → values cells (logging f c v) ≡ upd (values cells f) c v
-  values_logged cells f c v = fun_ext λ i. elim (eqb i c) as (λ b. unwrap_or (cond b (Some v) (f.log i)) (cells i) ≡ cond b v (unwrap_or (f.log i) (cells i))) [ true ↦ refl | false ↦ refl ]
+  values_logged cells f c v = fun_ext λ i. grind arith
 
   there_same : (o : Option V) (v w : V) → is_some o ≡ true → unwrap_or o v ≡ unwrap_or o w
-  there_same None v w e = absurd (false≢true e)
-  there_same (Some x) v w e = refl
+  there_same o v w there = grind arith
 
   absent_else : (o : Option V) (v : V) → is_some o ≡ false → unwrap_or o v ≡ v
-  absent_else None v e = refl
-  absent_else (Some x) v e = absurd (true≢false e)
+  absent_else o v absent = grind arith
 
   module _ (k : Meaning V) (p : Program V) (t : ℕ) (others : ℕ → V) where
     pub reframed : {cells : ℕ → V} {start l : Local V} {f : Footprint V} → Run k p t cells start l f

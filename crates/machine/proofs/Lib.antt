@@ -12,4 +12,3 @@ pub mod Singly
 pub mod Samples
 pub mod Keeps
 pub mod Blocks
-pub mod Tabulated

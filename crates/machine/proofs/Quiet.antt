@@ -1,12 +1,11 @@
 -- When no task is active, one by one and all together.
-use Rattle.std.proofs.Common.{◌≡◌, ℕ, ◌<◌, true, false, not, sym, refl, ap, ◌∙◌}
+use Rattle.std.proofs.Common.{◌≡◌, ℕ, ◌<◌, true, false, not, sym, refl, ◌∙◌, arith}
 use Rattle.std.specs.Bool.{Decides}
 use Rattle.std.proofs.lemmas.Bool.{true≢false, not-true, not_from_false, false_from_ne_true, ltb-true, lt-ltb}
 use Rattle.std.proofs.lemmas.Bool.Decides.{Decides-below_and}
 use Rattle.machine.specs.Update.{upd}
 use Rattle.machine.specs.Effect.{Program}
 use Rattle.machine.specs.Strong.{Phase, State, is_active, none_active, given, quiet}
-use Rattle.machine.proofs.Updates.{upd_same, upd_other, split}
 
 module _ {V : Type 0} where
   none_decides : (n : ℕ) (phase : ℕ → Phase V) → Decides (none_active n phase) ((t : ℕ) → t < n → is_active (phase t) ≡ false)
@@ -26,6 +25,4 @@ module _ {V : Type 0} where
 
   -- one task moves to a phase that is not active
   pub quiet-moved : (p : Program V) (s n : State V) (t : ℕ) (ph : Phase V) → quiet p s ≡ true → n.phase ≡ upd s.phase t ph → is_active ph ≡ false → quiet p n ≡ true
-  quiet-moved p s n t ph q is off = quiet_all p n λ u g. ap (λ f. is_active (f u)) is ∙ split (λ u. given p u ≡ true → is_active (upd s.phase t ph u) ≡ false) t
-      (λ _. ap is_active (upd_same s.phase t ph) ∙ off)
-      (λ u ne g. ap is_active (upd_other s.phase t ph u ne) ∙ quiet_each p s q u g) u g
+  quiet-moved p s n t ph q is off = quiet_all p n λ u g. let before : is_active (s.phase u) ≡ false = quiet_each p s q u g in rw is (grind arith)

@@ -27,13 +27,9 @@ module _ (p : Program ℤ) (s₀ : State ℤ) where
   pub reached : (es : List Event) (n : State ℤ) → plays p es (Some s₀) ≡ Some n → Reaches numbers p s₀ n
   reached es = all_led es (Some s₀) (λ n is. subst (Reaches numbers p s₀) (same_Some _ _ is) here)
 
-abbrev got : Option (State ℤ) → State ℤ
-got None = start
-got (Some s) = s
-
 pub taken : Taken
 taken = (
-  got (plays handover taker_first (Some start)),
+  _,
   refl,
   reached handover start taker_first _ refl,
   record { first = (refl, refl); second = (refl, refl) },
@@ -45,7 +41,7 @@ taken = (
 
 pub added : Added
 unfolding int_wrap
-added = (got (plays handover adder_first (Some start)), refl, reached handover start adder_first _ refl, refl, refl, refl)
+added = (_, refl, reached handover start adder_first _ refl, refl, refl, refl)
 
 -- the way to the careless access, and to the blind one
 abbrev to_careless : List Event
@@ -60,13 +56,10 @@ slip op = program (careless op) adder
 abbrev rash : Op → Program ℤ
 rash op = program taker (blind op)
 
-abbrev come : Program ℤ → List Event → State ℤ
-come p es = got (plays p es (Some start))
-
 pub broken : Broken
 broken = (
-  (λ sep. false≢true (sep.drivers (come (slip (Write 1 2)) to_careless) (reached (slip (Write 1 2)) start to_careless _ refl) refl 0 refl _ refl writing 1 refl)),
-  (λ sep. false≢true (sep.drivers (come (slip (Read 2 1)) to_careless) (reached (slip (Read 2 1)) start to_careless _ refl) refl 0 refl _ refl reading 1 refl)),
-  (λ sep. false≢true (sep.fragments (come (rash (Read 2 1)) to_blind) (reached (rash (Read 2 1)) start to_blind _ refl) 1 refl _ refl reading 1 refl)),
-  (λ sep. false≢true (sep.fragments (come (rash (Write 1 2)) to_blind) (reached (rash (Write 1 2)) start to_blind _ refl) 1 refl _ refl writing 1 refl)),
+  (λ sep. false≢true (sep.drivers _ (reached (slip (Write 1 2)) start to_careless _ refl) refl 0 refl _ refl writing 1 refl)),
+  (λ sep. false≢true (sep.drivers _ (reached (slip (Read 2 1)) start to_careless _ refl) refl 0 refl _ refl reading 1 refl)),
+  (λ sep. false≢true (sep.fragments _ (reached (rash (Read 2 1)) start to_blind _ refl) 1 refl _ refl reading 1 refl)),
+  (λ sep. false≢true (sep.fragments _ (reached (rash (Write 1 2)) start to_blind _ refl) 1 refl _ refl writing 1 refl)),
 )

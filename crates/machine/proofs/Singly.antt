@@ -1,6 +1,5 @@
 -- Never are two tasks active at once.
 use Rattle.std.proofs.Common.{◌≡◌, ℕ, true, Some, sym, ◌∙◌, arith}
-use Rattle.std.proofs.lemmas.Bool.{true≢false}
 use Rattle.std.proofs.lemmas.Bool.Decides.{nat_tests}
 use Rattle.machine.specs.Effect.{Meaning, Program}
 use Rattle.machine.specs.Strong.{State, Event, is_active, given, quiet, event, Reaches, here, more}
@@ -13,7 +12,7 @@ module _ {V : Type 0} (k : Meaning V) (p : Program V) where
   Single s = (t u : ℕ) → given p t ≡ true → given p u ≡ true → is_active (s.phase t) ≡ true → is_active (s.phase u) ≡ true → t ≡ u
 
   quiet_single : (s : State V) → quiet p s ≡ true → Single s
-  quiet_single s q t u gt gu at au = absurd (true≢false (sym at ∙ quiet_each p s q t gt))
+  quiet_single s q t u gt gu at au = let off = quiet_each p s q t gt in cc
 
   -- after an event only its own task may be active
   only : (s n : State V) (t : ℕ) → Single s → Occurred k p s n t → (u : ℕ) → given p u ≡ true → is_active (n.phase u) ≡ true → u ≡ t

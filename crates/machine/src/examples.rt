@@ -4,7 +4,6 @@ ghost use Rattle.machine.specs.Table.{Tabulated};
 ghost use Rattle.machine.specs.Waiting.{Unasked};
 
 // Each operation on each side, and each event, on one small state.
-#[tactic(auto, using(crate::proofs::Tabulated::tabulated))]
 pub fn table_stands()
     ensures { Tabulated }
 {}
