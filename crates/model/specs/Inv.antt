@@ -12,9 +12,7 @@ use Rattle.model.specs.Moves.{held}
 module _ {V : Type 0} where
   abbrev pub is_off : Stage V → Bool
   is_off off = true
-  is_off (waiting l) = false
-  is_off (inside l o) = false
-  is_off (out l) = false
+  is_off _ = false
 
   -- what task t has written to a cell, by the cell's owner and value
   abbrev pub written : ℕ → Option ℕ → V → Option V
@@ -27,10 +25,8 @@ module _ {V : Type 0} where
   module _ (k : Meaning V) (p : Program V) where
     -- the transaction that is open at that stage, unless it is stale, is a private run over the undone cells
     abbrev pub RunAt : Model V → ℕ → Stage V → Type 0
-    RunAt m t off = Unit {0}
-    RunAt m t (waiting l) = Unit {0}
     RunAt m t (inside l o) = m.seen.stale t ≡ false → Run k p t (undone m).cell o l (footprint m t)
-    RunAt m t (out l) = Unit {0}
+    RunAt m t _ = Unit {0}
 
     pub record Inv (s₀ : State V) (m : Model V) : Type 0 where
       pub reach : Reaches k p s₀ (undone m)

@@ -22,32 +22,32 @@ freed t (Some u) = cond (u == t) None (Some u)
 module _ {V : Type 0} where
   -- task t has come to another stage
   abbrev pub moved : Model V → ℕ → Stage V → Model V
-  moved m t st = record { cell = m.cell; mode = m.mode; owner = m.owner; saved = m.saved; owed = m.owed; own = m.own; seen = m.seen; stage = upd m.stage t st }
+  moved m t st = record m { stage = upd m.stage t st }
 
   abbrev pub told : Model V → Seen → Model V
-  told m s = record { cell = m.cell; mode = m.mode; owner = m.owner; saved = m.saved; owed = m.owed; own = m.own; seen = s; stage = m.stage }
+  told m s = record m { seen = s }
 
   abbrev pub stored : Model V → ℕ → V → Model V
-  stored m c v = record { cell = upd m.cell c v; mode = m.mode; owner = m.owner; saved = m.saved; owed = m.owed; own = m.own; seen = m.seen; stage = m.stage }
+  stored m c v = record m { cell = upd m.cell c v }
 
   -- task t owns the cell, and its value is saved
   abbrev pub taken : Model V → ℕ → ℕ → Model V
-  taken m t c = record { cell = m.cell; mode = m.mode; owner = upd m.owner c (Some t); saved = upd m.saved c (m.cell c); owed = m.owed; own = m.own; seen = m.seen; stage = m.stage }
+  taken m t c = record m { owner = upd m.owner c (Some t); saved = upd m.saved c (m.cell c) }
 
   abbrev pub guarded : Model V → ℕ → Mode → Model V
-  guarded m c d = record { cell = m.cell; mode = upd m.mode c d; owner = m.owner; saved = m.saved; owed = m.owed; own = m.own; seen = m.seen; stage = m.stage }
+  guarded m c d = record m { mode = upd m.mode c d }
 
   abbrev pub owing : Model V → (ℕ → ℕ) → Model V
-  owing m f = record { cell = m.cell; mode = m.mode; owner = m.owner; saved = m.saved; owed = f; own = m.own; seen = m.seen; stage = m.stage }
+  owing m f = record m { owed = f }
 
   abbrev pub counting : Model V → ℕ → (ℕ → ℕ) → Model V
-  counting m t f = record { cell = m.cell; mode = m.mode; owner = m.owner; saved = m.saved; owed = m.owed; own = upd m.own t f; seen = m.seen; stage = m.stage }
+  counting m t f = record m { own = upd m.own t f }
 
   abbrev pub released : Model V → ℕ → Model V
-  released m t = record { cell = m.cell; mode = m.mode; owner = λ c. freed t (m.owner c); saved = m.saved; owed = m.owed; own = m.own; seen = m.seen; stage = m.stage }
+  released m t = record m { owner = λ c. freed t (m.owner c) }
 
   abbrev pub restored : Model V → ℕ → Model V
-  restored m t = record { cell = λ c. cond (mine t (m.owner c)) (m.saved c) (m.cell c); mode = m.mode; owner = m.owner; saved = m.saved; owed = m.owed; own = m.own; seen = m.seen; stage = m.stage }
+  restored m t = record m { cell = λ c. cond (mine t (m.owner c)) (m.saved c) (m.cell c) }
 
   -- what t's transaction did takes effect, and the task goes on
   abbrev pub committed : Model V → ℕ → Stage V → Model V
