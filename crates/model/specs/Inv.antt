@@ -6,7 +6,7 @@ use Rattle.machine.specs.Effect.{Meaning, Program}
 use Rattle.machine.specs.Strong.{State, given, Reaches}
 use Rattle.machine.specs.Fragment.{Footprint, Run}
 use Rattle.board.specs.Boards.{mine}
-use Rattle.model.specs.Model.{Stage, off, waiting, inside, out, Model, is_inside, undone}
+use Rattle.model.specs.Model.{Stage, off, inside, Model, is_inside, undone}
 use Rattle.model.specs.Moves.{held}
 
 module _ {V : Type 0} where
