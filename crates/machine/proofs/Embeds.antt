@@ -1,13 +1,13 @@
 -- The strong machine follows a private run, operation by operation.
-use Rattle.std.proofs.Common.{◌≡◌, ℕ, true, Some, None, Option, sym, refl, ap, ◌∙◌}
+use Rattle.std.proofs.Common.{◌≡◌, ℕ, true, Some, None, Option, refl, ap, ◌∙◌, arith}
+use Rattle.std.proofs.lemmas.Bool.Decides.{nat_tests}
 use Rattle.std.specs.Option.{option_map}
-use Rattle.machine.specs.Update.{upd}
 use Rattle.machine.specs.Effect.{Meaning, Program, Local, next, loaded, Effect, goes, reads, writes, starts, leaves, finishes, asked}
 use Rattle.machine.specs.Strong.{Phase, idle, ready, active, outside, State, fragment, runs, opens, placed, acted, given, quiet, event, Reaches, here, more}
 use Rattle.machine.specs.Fragment.{Footprint, values, untouched, noting, logging, calling, after, Run, begin, go, read, write, call}
-use Rattle.machine.proofs.Updates.{upd_same, upd-upd, sum_none, sum_more}
+use Rattle.machine.proofs.Updates.{upd_same}
+use Rattle.machine.proofs.Alike.{same_state}
 use Rattle.machine.proofs.Events.{opening, running}
-use Rattle.machine.proofs.Frames.{values_logged}
 
 -- what an effect makes of a run: its footprint, and the phase that its task comes to
 abbrev pub stepped : {V : Type 0} → (ℕ → V) → Footprint V → Local V → Effect V → Option (Footprint V × Phase V)
@@ -20,25 +20,21 @@ stepped cells f l finishes = Some (f, idle)
 stepped cells f l _ = None
 
 module _ {V : Type 0} (s : State V) (t : ℕ) where
-  -- an opening, and each effect, in the words of a run's footprint
-  pub after_opening : (l : Local V) → placed s t (active l) ≡ after s t untouched (active l)
-  after_opening l = λ i. record { cell = s.cell; mode = s.mode; owed = sym (sum_none s.owed) i; phase = upd s.phase t (active l) }
-
   abbrev pub landed : Option (Footprint V × Phase V) → Option (State V)
   landed = option_map (λ a. after s t a.0 a.1)
 
-  module _ (f : Footprint V) (l : Local V) where
-    moved : (ph : Phase V) → Some (placed (after s t f (active l)) t ph) ≡ Some (after s t f ph)
-    moved ph = λ i. Some (record (after s t f ph) { phase = upd-upd s.phase t (active l) ph i })
+  -- an opening, and each effect, in the words of a run's footprint
+  pub after_opening : (l : Local V) → placed s t (active l) ≡ after s t untouched (active l)
+  after_opening l = same_state (grind arith)
 
-    acts : (e : Effect V) → acted fragment (after s t f (active l)) t l e ≡ landed (stepped s.cell f l e)
-    acts (goes to) = moved (active to)
-    acts (reads to c) = moved (active (loaded l to (values s.cell f c)))
-    acts (writes c v) = λ i. Some (record (after s t f (active l)) { cell = sym (values_logged s.cell f c v) i; phase = upd-upd s.phase t (active l) (active (next l)) i })
-    acts (starts u) = λ i. Some (record (after s t f (active l)) { owed = sum_more s.owed f.calls u i; phase = upd-upd s.phase t (active l) (active (next l)) i })
-    acts leaves = moved (outside (next l))
-    acts finishes = moved idle
-    acts _ = refl
+  acts : (f : Footprint V) (l : Local V) (e : Effect V) → acted fragment (after s t f (active l)) t l e ≡ landed (stepped s.cell f l e)
+  acts f l (goes to) = ap Some (same_state (grind (arith, nat_tests)))
+  acts f l (reads to c) = ap Some (same_state (grind (arith, nat_tests)))
+  acts f l (writes c v) = ap Some (same_state (grind (arith, nat_tests)))
+  acts f l (starts u) = ap Some (same_state (grind (arith, nat_tests)))
+  acts f l leaves = ap Some (same_state (grind (arith, nat_tests)))
+  acts f l finishes = ap Some (same_state (grind (arith, nat_tests)))
+  acts f l _ = refl
 
 -- a statement of every end of a run, by that of its start and by one case for all its operations
 module _ {V : Type 0} (k : Meaning V) (p : Program V) (t : ℕ) (cells : ℕ → V) (start : Local V) (P : Local V → Footprint V → Type 0) (first : P start untouched)

@@ -1,27 +1,17 @@
 -- A private run over other cells, and what a run's footprint says of the cells.
-use Rattle.std.proofs.Common.{◌≡◌, ℕ, Bool, true, false, Option, subst, arith}
-use mathlib.Core.Path.{fun_ext}
-use Rattle.std.specs.Option.{is_some, unwrap_or}
+use Rattle.std.proofs.Common.{◌≡◌, ℕ, Bool, true, subst, arith}
+use Rattle.std.specs.Option.{unwrap_or}
 use Rattle.machine.specs.Update.{upd}
 use Rattle.machine.specs.Effect.{Meaning, Program, Local, loaded}
-use Rattle.machine.specs.Fragment.{Footprint, values, noting, logging, Run, begin, go, read, write, call}
+use Rattle.machine.specs.Fragment.{Footprint, noting, Run, begin, go, read, write, call}
 use Rattle.machine.specs.FragmentLaws.{Frame}
 use Rattle.machine.proofs.Updates.{upd_same}
 
 -- what was noted stays noted
-pub noted-still : (n : ℕ → Bool) (c i : ℕ) → n i ≡ true → upd n c true i ≡ true
+noted-still : (n : ℕ → Bool) (c i : ℕ) → n i ≡ true → upd n c true i ≡ true
 noted-still n c i h = grind arith
 
 module _ {V : Type 0} where
-  pub values_logged : (cells : ℕ → V) (f : Footprint V) (c : ℕ) (v : V) → values cells (logging f c v) ≡ upd (values cells f) c v
-  values_logged cells f c v = fun_ext λ i. grind arith
-
-  there_same : (o : Option V) (v w : V) → is_some o ≡ true → unwrap_or o v ≡ unwrap_or o w
-  there_same o v w there = grind arith
-
-  absent_else : (o : Option V) (v : V) → is_some o ≡ false → unwrap_or o v ≡ v
-  absent_else o v absent = grind arith
-
   module _ (k : Meaning V) (p : Program V) (t : ℕ) (others : ℕ → V) where
     pub reframed : {cells : ℕ → V} {start l : Local V} {f : Footprint V} → Run k p t cells start l f
         → ((c : ℕ) → f.noted c ≡ true → others c ≡ cells c) → Run k p t others start l f
@@ -36,6 +26,6 @@ module _ {V : Type 0} where
   pub frame_stands : (k : Meaning V) → Frame k
   frame_stands k p t cells others start l f run a = (
     reframed k p t others run a,
-    (λ c w. there_same (f.log c) (others c) (cells c) w),
-    (λ c w. absent_else (f.log c) (others c) w),
+    (λ c w. grind arith),
+    (λ c w. grind arith),
   )

@@ -1,4 +1,5 @@
 pub mod Updates
+pub mod Alike
 pub mod Events
 pub mod Frames
 pub mod Embeds

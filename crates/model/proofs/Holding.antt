@@ -8,6 +8,7 @@ use Rattle.machine.specs.Effect.{Meaning, Program, Local}
 use Rattle.machine.specs.Strong.{State, given, Reaches}
 use Rattle.machine.specs.Fragment.{Footprint, Run}
 use Rattle.machine.proofs.Updates.{split, upd_same, upd_other}
+use Rattle.machine.proofs.Alike.{Alike, same_footprint}
 use Rattle.machine.proofs.Frames.{reframed}
 use Rattle.board.specs.Boards.{mine}
 use Rattle.model.specs.Model.{Stage, inside, Model, is_inside, undone}
@@ -15,12 +16,6 @@ use Rattle.model.specs.Moves.{held}
 use Rattle.model.specs.Inv.{is_off, footprint, RunAt, Inv}
 
 module _ {V : Type 0} where
-  -- the same footprint, number by number
-  pub record Alike (f g : Footprint V) : Type 0 where
-    pub logs : (c : ℕ) → f.log c ≡ g.log c
-    pub notes : (c : ℕ) → f.noted c ≡ g.noted c
-    pub calls : (u : ℕ) → f.calls u ≡ g.calls u
-
   pub record Holds (p : Program V) (m n : Model V) (t : ℕ) : Type 0 where
     -- every other task has done what it had done, and where it is not stale the values stand that it noted
     pub same : (u : ℕ) → eqb u t ≡ false → Alike (footprint m u) (footprint n u)
@@ -37,9 +32,7 @@ module _ {V : Type 0} where
     -- a run goes on over cells that are the same, with a footprint that is
     pub carried : {t : ℕ} {cells others : ℕ → V} {o l : Local V} {f g : Footprint V} → Run k p t cells o l f → ((c : ℕ) → cells c ≡ others c) → Alike f g
         → Run k p t others o l g
-    carried {t} {o = o} {l = l} {f = f} {g = g} run values a =
-        let same : f ≡ g = λ i. record { log = fun_ext a.logs i; noted = fun_ext a.notes i; calls = fun_ext a.calls i } in
-        subst₂ (λ x y. Run k p t x o l y) (fun_ext values) same run
+    carried {t} {o = o} {l = l} run values alike = subst₂ (λ x y. Run k p t x o l y) (fun_ext values) (same_footprint alike) run
 
     module _ {s₀ : State V} {m n : Model V} (inv : Inv k p s₀ m) (t : ℕ) where
       -- another task's run goes on over the new cells

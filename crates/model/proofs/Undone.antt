@@ -1,9 +1,9 @@
 -- The undone state: no task is active in it, and how it moves when one task comes to another stage.
 use Rattle.std.proofs.Common.{◌≡◌, ℕ, true, false, Some, refl, ap, ◌∙◌, subst, arith}
-use mathlib.Core.Path.{fun_ext}
 use Rattle.machine.specs.Effect.{Meaning, Program, Local, Effect, asked}
 use Rattle.machine.specs.Strong.{State, driver, runs, is_active, given, quiet, acted, Reaches, more}
 use Rattle.machine.specs.Fragment.{Run, Alone}
+use Rattle.machine.proofs.Alike.{Same, same_state}
 use Rattle.machine.proofs.Quiet.{quiet_all}
 use Rattle.machine.proofs.Events.{driving, joined}
 use Rattle.machine.proofs.Wholes.{whole_stands}
@@ -13,13 +13,6 @@ use Rattle.model.specs.Inv.{footprint}
 use Rattle.model.specs.Parts.{Part, one, ShiftsBy}
 
 module _ {V : Type 0} where
-  -- the same state, number by number
-  pub record Same (s n : State V) : Type 0 where
-    pub cells : (c : ℕ) → s.cell c ≡ n.cell c
-    pub modes : (c : ℕ) → s.mode c ≡ n.mode c
-    pub owed : (u : ℕ) → s.owed u ≡ n.owed u
-    pub phases : (u : ℕ) → s.phase u ≡ n.phase u
-
   not_active : (st : Stage V) → is_active (settled st) ≡ false
   not_active st = grind arith
 
@@ -35,9 +28,7 @@ module _ {V : Type 0} where
     onward {s = s} (ended t l f al asks) way = joined k p way ((whole_stands k p s t l f al).1 asks).0
 
     pub arriving : {s n n' : State V} {part : Part} → ShiftsBy k p part s n → Same n n' → ShiftsBy k p part s n'
-    arriving {s} {n} {n'} {part} h same =
-        let e : n ≡ n' = λ i. record { cell = fun_ext same.cells i; mode = fun_ext same.modes i; owed = fun_ext same.owed i; phase = fun_ext same.phases i } in
-        subst (λ x. ShiftsBy k p part s x) e h
+    arriving {s} {part = part} h same = subst (λ x. ShiftsBy k p part s x) (same_state same) h
 
     module _ (m : Model V) (t : ℕ) where
       -- a task outside runs its operation
