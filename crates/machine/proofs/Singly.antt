@@ -1,8 +1,8 @@
 -- Never are two tasks active at once.
-use Rattle.std.proofs.Common.{◌≡◌, ℕ, true, Some, sym, ◌∙◌, arith}
+use Rattle.std.proofs.Common.{◌≡◌, ℕ, true, arith}
 use Rattle.std.proofs.lemmas.Bool.Decides.{nat_tests}
 use Rattle.machine.specs.Effect.{Meaning, Program}
-use Rattle.machine.specs.Strong.{State, Event, is_active, given, quiet, event, Reaches, here, more}
+use Rattle.machine.specs.Strong.{State, is_active, given, quiet, Reaches, here, more}
 use Rattle.machine.specs.MachineLaws.{OneAtATime}
 use Rattle.machine.proofs.Quiet.{quiet_each}
 use Rattle.machine.proofs.Inverts.{Occurred, occurred, task_of}
@@ -15,17 +15,12 @@ module _ {V : Type 0} (k : Meaning V) (p : Program V) where
   quiet_single s q t u gt gu at au = let off = quiet_each p s q t gt in cc
 
   -- after an event only its own task may be active
-  only : (s n : State V) (t : ℕ) → Single s → Occurred k p s n t → (u : ℕ) → given p u ≡ true → is_active (n.phase u) ≡ true → u ≡ t
-  only s n t single o u g a = grind (arith, nat_tests, quiet_each)
-
-  kept : (s n : State V) (e : Event) → Single s → event k p e s ≡ Some n → Single n
-  kept s n e single is t u gt gu at au =
-      let o = occurred k p s n e is in
-      only s n (task_of e) single o t gt at ∙ sym (only s n (task_of e) single o u gu au)
+  kept : (s n : State V) (t : ℕ) → Single s → Occurred k p s n t → Single n
+  kept s n t single o = grind (arith, nat_tests, quiet_each)
 
   always : {s₀ s : State V} → Single s₀ → Reaches k p s₀ s → Single s
   always single here = single
-  always single (more {m = m} {n = n} e way is) = kept m n e (always single way) is
+  always single (more {m = m} {n = n} e way is) = kept m n (task_of e) (always single way) (occurred k p m n e is)
 
 pub one_at_a_time_stands : {V : Type 0} (k : Meaning V) → OneAtATime k
 one_at_a_time_stands k p s₀ s q way = always k p (quiet_single k p s₀ q) way

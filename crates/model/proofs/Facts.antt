@@ -1,5 +1,6 @@
 -- What the invariant says of one task: who it is, its run, and under separation which cells it may touch.
 use Rattle.std.proofs.Common.{◌≡◌, ℕ, true, false, sym, refl, ap, ◌∙◌, subst, arith}
+use Rattle.std.specs.Option.{is_some}
 use Rattle.program.specs.declared.Mode.{Mode}
 use Rattle.book.specs.Seen.{a_task}
 use Rattle.machine.specs.Effect.{Meaning, Program, Local, Effect, asked}
@@ -8,7 +9,6 @@ use Rattle.machine.specs.Separation.{Access, reading, writing, may, Touches, Sep
 use Rattle.machine.specs.Fragment.{Run}
 use Rattle.machine.proofs.Passing.{own_side_stands}
 use Rattle.model.specs.Model.{Stage, inside, out, Model, is_inside, settled, undone}
-use Rattle.model.specs.Moves.{held}
 use Rattle.model.specs.Inv.{is_off, footprint, RunAt, Inv}
 use Rattle.model.proofs.Undone.{undone-quiet, alone}
 
@@ -24,7 +24,7 @@ module _ {V : Type 0} {k : Meaning V} {p : Program V} {s₀ : State V} {m : Mode
   run_at l o at = subst (RunAt k p m t) at (inv.runs t)
 
   -- a cell that drivers may touch is not owned
-  pub unowned : (a : Access) (c : ℕ) → may driver a (m.mode c) ≡ true → held (m.owner c) ≡ false
+  pub unowned : (a : Access) (c : ℕ) → may driver a (m.mode c) ≡ true → is_some (m.owner c) ≡ false
   unowned a c lawful = grind arith
 
   module _ (sep : Separated k p s₀) where

@@ -1,6 +1,7 @@
 -- The invariant after a call of one task: what the call must leave to every other task and to each cell, and what is left to show of its own run.
 use Rattle.std.proofs.Common.{◌≡◌, ℕ, true, false, eqb, sym, refl, ap, ◌∙◌, subst, subst₂}
 use mathlib.Core.Path.{fun_ext}
+use Rattle.std.specs.Option.{is_some}
 use Rattle.program.specs.declared.Mode.TheVariants.{Protected}
 use Rattle.book.specs.Seen.{a_task, a_cell}
 use Rattle.machine.specs.Update.{upd}
@@ -12,7 +13,6 @@ use Rattle.machine.proofs.Alike.{Alike, same_footprint}
 use Rattle.machine.proofs.Frames.{reframed}
 use Rattle.board.specs.Boards.{mine}
 use Rattle.model.specs.Model.{Stage, inside, Model, is_inside, undone}
-use Rattle.model.specs.Moves.{held}
 use Rattle.model.specs.Inv.{is_off, footprint, RunAt, Inv}
 
 module _ {V : Type 0} where
@@ -23,8 +23,8 @@ module _ {V : Type 0} where
     pub agrees : (u : ℕ) → eqb u t ≡ false → is_inside (m.stage u) ≡ true → n.seen.stale u ≡ false
         → (c : ℕ) → m.seen.noted u c ≡ true → (undone n).cell c ≡ (undone m).cell c
     -- and the rest of the invariant holds
-    pub guarded : (c : ℕ) → held (n.owner c) ≡ true → n.mode c ≡ Protected
-    pub ranged : (c : ℕ) → held (n.owner c) ≡ true → a_cell c ≡ true
+    pub guarded : (c : ℕ) → is_some (n.owner c) ≡ true → n.mode c ≡ Protected
+    pub ranged : (c : ℕ) → is_some (n.owner c) ≡ true → a_cell c ≡ true
     pub owners : (u c : ℕ) → mine u (n.owner c) ≡ true → is_inside (n.stage u) ≡ true
     pub known : (u : ℕ) → is_off (n.stage u) ≡ false → (given p u ≡ true) × (a_task u ≡ true)
 

@@ -1,5 +1,6 @@
 -- What an accepted call does to the engine's state, and how the undone state moves.
-use Rattle.std.specs.Prelude.{◌≡◌, ℕ, suc, ◌+◌, Bool, true, false, cond, Some, None, Option, ◌==◌}
+use Rattle.std.specs.Prelude.{◌≡◌, ℕ, suc, ◌+◌, true, false, cond, Some, None, Option, ◌==◌}
+use Rattle.std.specs.Option.{is_some}
 use Rattle.program.specs.declared.Mode.{Mode}
 use Rattle.program.specs.declared.Mode.TheVariants.{Protected}
 use Rattle.book.specs.Seen.{Seen, begun, noting, finished, rested, a_task, a_cell}
@@ -9,10 +10,6 @@ use Rattle.machine.specs.Strong.{idle, outside, State, Event, first, given, even
 use Rattle.machine.specs.Fragment.{Footprint, after, Alone}
 use Rattle.board.specs.Boards.{mine, another}
 use Rattle.model.specs.Model.{Stage, off, waiting, inside, out, Model, is_inside}
-
-abbrev pub held : Option ℕ → Bool
-held None = false
-held (Some t) = true
 
 -- the owner, once t has let go
 abbrev pub freed : ℕ → Option ℕ → Option ℕ
@@ -86,7 +83,7 @@ module _ {V : Type 0} where
       enter : (t : ℕ) (l : Local V) → m.stage t ≡ out l → asked k p t l ≡ enters
           → Move m (moved m t (waiting (next l)))
       set_mode : (t : ℕ) (l : Local V) (c : ℕ) (d : Mode) → m.stage t ≡ out l → asked k p t l ≡ sets c d
-          → (held (m.owner c) ≡ true → d ≡ Protected)
+          → (is_some (m.owner c) ≡ true → d ≡ Protected)
           → Move m (moved (guarded m c d) t (out (next l)))
       finish_out : (t : ℕ) (l : Local V) → m.stage t ≡ out l → asked k p t l ≡ finishes
           → Move m (moved m t off)
