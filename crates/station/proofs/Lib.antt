@@ -1,4 +1,5 @@
 mod Sizes
+pub mod Made
 pub mod Writes
 pub mod Lookups
 pub mod Says
