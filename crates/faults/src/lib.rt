@@ -126,7 +126,7 @@ impl TaskFault {
                 layer: 4,
                 first,
                 second,
-                cause: cause.number(),
+                cause: cause.into(),
             },
             _ => Notice {
                 number,

@@ -97,7 +97,7 @@ pub(crate) fn op_line_of(op: Op) -> Line
             words(
                 b'a',
                 &[
-                    u16::from(operation.number()),
+                    u16::from(u8::from(operation)),
                     u16::from(to),
                     u16::from(left),
                     u16::from(right),

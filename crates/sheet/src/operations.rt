@@ -51,11 +51,8 @@ fn task(n: u64) -> u8
 fn apply(o: u64, d: u64, i: u64, j: u64) -> Result<Op, Fault>
     ensures { result ≡ applied (operation_at o) d i j }
 {
-    let Some(operation) = Operation::from_number(o) else {
-        return Err(Fault::Bound);
-    };
     Ok(Op::Apply {
-        operation,
+        operation: Operation::try_from(o)?,
         to: register(d)?,
         left: register(i)?,
         right: register(j)?,
