@@ -1,11 +1,12 @@
 -- Bearings that a sheet holds, by the bits of their floats.
 use Rattle.std.specs.Prelude.{◌≡◌, ℕ, ◌%◌, ◌<◌, ◌≤◌, true, false, cond, not, T, List, Some, None, Ok, Err, Option, from_bits, nat_lt, to_bits, refl, Float}
-use Rattle.std.proofs.Common.{sym, ap, subst, ◌∙◌, ⊎_elim, arith}
+use Rattle.std.proofs.Common.{sym, ap, subst, ◌∙◌, ⊎_elim}
 use Rattle.std.specs.Float.{nan, inf, fin, binary32}
 use Rattle.std.specs.Float.Ieee.{fits, is_nan, nan_bits, le, lt, eq}
 use Rattle.std.specs.Float.Ieee.Bits.{is_true, of_bits-to_bits, to_bits-lt, of_bits-fits, to_bits-of_bits, nan_bits_is, nan_bits_above}
 use Rattle.std.proofs.lemmas.Bool.{cond-true, cond-false, and_left, and_from, cases_Bool, lt-ltb, le-ltb, true≢false}
 use Rattle.value.specs.declared.codes.Fault.TheVariants.{Bound}
+use Rattle.value.specs.Answers.{passed}
 use Rattle.value.specs.Bearings.{north, held, bearing_form, bearing_at}
 use Rattle.value.specs.Forms.{tagged}
 use Rattle.value.specs.Hex.{hexed, hex}
@@ -20,8 +21,8 @@ le_nan (fin s m e) = refl
 no_nan_held : (x : Float) → is_nan x ≡ true → held x ≡ false
 unfolding is_nan
 no_nan_held nan h = and_left (le north nan) _ (le_nan north)
-no_nan_held (inf s) h = absurd (let z : ◌≡◌ {A = ℕ} 0 1 = cc in omega arith)
-no_nan_held (fin s m e) h = absurd (let z : ◌≡◌ {A = ℕ} 0 1 = cc in omega arith)
+no_nan_held (inf s) h = absurd cc
+no_nan_held (fin s m e) h = absurd cc
 
 bits-nan : (n : ℕ) → is_nan (from_bits binary32 n) ≡ nat_lt 2139095040 (n % 2147483648)
 bits-nan n = sym (nan_bits_is binary32 n) ∙ nan_bits_above binary32 n
@@ -47,19 +48,12 @@ number_held x h =
 
 -- and nothing else is
 pub bearing_there : (w : List ℕ) (o : Option ℕ) (x : Float) → hexed w ≡ o → bearing_at o ≡ Ok x → bearing_form x ≡ Some (tagged 97 w)
-bearing_there w None x d e = absurd (let z : ◌≡◌ {A = ℕ} 0 1 = cc in omega arith)
+bearing_there w None x d e = absurd cc
 bearing_there w (Some n) x d e =
-    ⊎_elim
-    (λ h.
-    let f : Ok (from_bits binary32 n) ≡ Ok x = sym (cond-true (held (from_bits binary32 n)) (Ok (from_bits binary32 n)) (Err Bound) h) ∙ e in
-    let is : from_bits binary32 n ≡ x = cc in
+    let y = from_bits binary32 n in
+    let p = passed (held y) y x Bound e in
     let r = hex_of_hexed w n d in
-    let b = to_bits-of_bits binary32 n r.0 (number_held (from_bits binary32 n) h) in
-    ap bearing_form (sym is)
-    ∙ (cond-true _ (Some (tagged 97 (hex 8 (to_bits binary32 (from_bits binary32 n))))) None (and_from _ _ (is_true (fits binary32 (from_bits binary32 n)) (of_bits-fits binary32 n)) h)
-    ∙ ap (λ l. Some (tagged 97 l)) (ap (hex 8) b ∙ r.1)))
-    (λ o.
-    let f : Err Bound ≡ Ok x = sym (cond-false (held (from_bits binary32 n)) (Ok (from_bits binary32 n)) (Err Bound) o) ∙ e in
-    let z : ◌≡◌ {A = ℕ} 0 1 = cc in
-    absurd (omega arith))
-    (cases_Bool (held (from_bits binary32 n)))
+    let b = to_bits-of_bits binary32 n r.0 (number_held y p.0) in
+    ap bearing_form (sym p.1)
+    ∙ (cond-true _ (Some (tagged 97 (hex 8 (to_bits binary32 y)))) None (and_from _ _ (is_true (fits binary32 y) (of_bits-fits binary32 n)) p.0)
+    ∙ ap (λ l. Some (tagged 97 l)) (ap (hex 8) b ∙ r.1))

@@ -7,6 +7,7 @@ pub mod Bearings
 pub mod Wholes
 pub mod Readings
 pub mod Laws
+pub mod Answers
 pub mod Hexes
 pub mod Places
 pub mod Signs

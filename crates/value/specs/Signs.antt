@@ -1,15 +1,13 @@
 -- Whole numbers of 32 bits: what their parts are read as, and that numbers and parts go back and forth.
-use Rattle.std.specs.Prelude.{◌≡◌, ℕ, zero, suc, ◌-◌, ◌^◌, ◌<◌, ◌≤◌, true, cond, ◌&&◌, List, [], ◌∷◌, length, take, drop, ℤ, pos, negsuc, neg_ℤ, Some, None, Ok, Err, decimal, Option, FitsSigned, ◌==◌, ◌≢◌, nat_le, slice_index, refl}
-use Rattle.std.proofs.Common.{sym, ap, ◌∙◌, ⊎_elim, arith, lit<, of_z, to_z}
+use Rattle.std.specs.Prelude.{◌≡◌, ℕ, zero, suc, ◌^◌, ◌<◌, ◌≤◌, true, cond, List, [], ◌∷◌, length, drop, ℤ, pos, negsuc, Some, None, Ok, Err, decimal, Option, ◌==◌, ◌≢◌, nat_le, slice_index, refl}
+use Rattle.std.proofs.Common.{sym, ap, ◌∙◌, ⊎_elim, arith, lit<}
 use Rattle.std.proofs.Math.Nat.{pow-le-pow_right}
 use Rattle.std.specs.Str.Parse.{digits_value}
-use Rattle.std.specs.Int.{IsInRange, w32}
+use Rattle.std.specs.Int.{IsInRange}
 use Rattle.std.specs.List.{AllByRecursion}
 use Rattle.std.specs.Str.{all_ascii_digits}
 use Rattle.std.specs.Fmt.{signed_decimal}
-use Rattle.std.proofs.lemmas.Int.{to_z-of_z}
-use Rattle.std.proofs.lemmas.List.{take_rest}
-use Rattle.std.proofs.lemmas.Bool.{cond-true, cond-false, eq-eqb, ne_eqb, eqb-true, le-leb, lt-leb, leb-true, lt-ltb, ltb-true, and_parts, cases_Bool, cases_lt}
+use Rattle.std.proofs.lemmas.Bool.{cond-true, cond-false, eq-eqb, ne_eqb, eqb-true, le-leb, leb-true, lt-ltb, ltb-true, and_parts, cases_Bool, cases_lt}
 use Rattle.std.proofs.lemmas.Bool.Decides.{nat_tests}
 use Rattle.std.proofs.ByRecursion.{All-get_or, All-from_get_or, All-weaker}
 use Rattle.std.proofs.lemmas.Str.Parse.{digit_at}
@@ -18,26 +16,11 @@ use Rattle.std.proofs.lemmas.Int.Digits.{digits_value-lt}
 use Rattle.text.specs.Number.{tidy, numeral}
 use Rattle.text.specs.Tokens.{atom}
 use Rattle.text.proofs.Numerals.{own, named}
-use Rattle.value.specs.declared.codes.Fault.TheVariants.{Form, Bound}
+use Rattle.value.specs.declared.codes.Fault.TheVariants.{Bound}
 use Rattle.value.specs.Counts.{in_32, natural, negative, integer}
+use Rattle.std.proofs.lemmas.Option.{cond_some}
+use Rattle.value.specs.Answers.{passed}
 use Rattle.value.specs.Places.{Worded}
-
--- a part with a minus in front is read by what follows it
-pub after_minus : (bs : List ℕ) (r : Option ℕ) → slice_index bs 0 ≡ 45 → r ≡ numeral (take (length bs - 1) (drop 1 bs)) → negative r ≡ integer bs
-after_minus bs r m e =
-    ap negative (e ∙ ap numeral (take_rest bs 1)) ∙ sym (cond-true (slice_index bs 0 == 45) (negative (numeral (drop 1 bs))) (natural (numeral bs)) (eq-eqb _ 45 m))
-
-pub minus_zero : (n : ℕ) → n ≡ 0 → negative (Some n) ≡ Err Form
-minus_zero n h = cond-true (n == 0) _ _ (eq-eqb n 0 h)
-
--- the number as the code holds it, by its bits
-pub minus_in : (n : ℕ) (z : ℤ) → (n ≢ 0) → n ≤ 2147483648 → z ≡ neg_ℤ (pos n) → FitsSigned w32 z → negative (Some n) ≡ Ok (to_z w32 (of_z w32 z))
-minus_in n z o h e f =
-    cond-false (n == 0) _ _ (ne_eqb n 0 o) ∙ (cond-true (nat_le n 2147483648) _ _ (le-leb n 2147483648 h) ∙ ap Ok (sym e ∙ sym (to_z-of_z w32 z f)))
-
-pub minus_past : (n : ℕ) → 2147483648 < n → negative (Some n) ≡ Err Bound
-minus_past n h =
-    cond-false (n == 0) _ _ (ne_eqb n 0 (λ e. omega arith)) ∙ cond-false (nat_le n 2147483648) _ _ (lt-leb n 2147483648 h)
 
 -- a number of up to ten digits as it is written
 small : (n : ℕ) → n < 10 ^ 10 → n < 2 ^ 64
@@ -61,23 +44,15 @@ lead bs t e = eqb-true (length bs) 1 (sym (cond-true (slice_index bs 0 == 48) (l
 
 decimal_numeral : (bs : List ℕ) (n : ℕ) → numeral bs ≡ Some n → bs ≡ decimal n
 decimal_numeral bs n e =
-    ⊎_elim
-    (λ y.
-    let p = and_parts (nat_le 1 (length bs)) _ y in
+    let s = cond_some _ (digits_value 10 bs) n e in
+    let p = and_parts (nat_le 1 (length bs)) _ s.0 in
     let q = and_parts (nat_le (length bs) 10) _ p.1 in
     let r = and_parts (tidy bs) (all_ascii_digits bs) q.1 in
     let some : 1 ≤ length bs = leb-true 1 (length bs) p.0 in
     let few : length bs ≤ 10 = leb-true (length bs) 10 q.0 in
-    let f : Some (digits_value 10 bs) ≡ Some n = sym (cond-true _ (Some (digits_value 10 bs)) None y) ∙ e in
-    let is : digits_value 10 bs ≡ n = cc in
     let low : digits_value 10 bs < 10 ^ length bs = digits_value-lt 10 bs (own.to bs r.1) in
     let top : 10 ^ length bs ≤ 10 ^ 10 = pow-le-pow_right (lit< tt) few in
-    sym (decimal-digits_value own bs r.1 some (lead bs r.0) (omega arith)) ∙ ap decimal is)
-    (λ o.
-    let g : None ≡ Some n = sym (cond-false _ (Some (digits_value 10 bs)) None o) ∙ e in
-    let z : ◌≡◌ {A = ℕ} 0 1 = cc in
-    absurd (omega arith))
-    (cases_Bool (nat_le 1 (length bs) && (nat_le (length bs) 10 && (tidy bs && all_ascii_digits bs))))
+    sym (decimal-digits_value own bs r.1 some (lead bs r.0) (omega arith)) ∙ ap decimal s.1
 
 -- the bytes of a number are digits
 digit_bytes : (n : ℕ) → n < 10 ^ 10 → AllByRecursion (IsInRange 48 57) (decimal n)
@@ -99,31 +74,17 @@ integer_signed (negsuc n) h =
     ap negative (numeral_decimal (suc n) (omega arith)) ∙ (negative_suc n ∙ cond-true (nat_le (suc n) 2147483648) _ _ (le-leb (suc n) 2147483648 l))
 
 natural_ok : (r : Option ℕ) (z : ℤ) → natural r ≡ Ok z → (n : ℕ) × (r ≡ Some n) × (n < 2147483648) × (z ≡ pos n)
-natural_ok None z e = absurd (let o : ◌≡◌ {A = ℕ} 0 1 = cc in omega arith)
+natural_ok None z e = absurd cc
 natural_ok (Some n) z e =
-    ⊎_elim
-    (λ y.
-    let f : Ok (pos n) ≡ Ok z = sym (cond-true (nat_le n 2147483647) (Ok (pos n)) (Err Bound) y) ∙ e in
-    (n, refl, omega (arith, leb-true n 2147483647 y), cc))
-    (λ o.
-    let f : Err Bound ≡ Ok z = sym (cond-false (nat_le n 2147483647) (Ok (pos n)) (Err Bound) o) ∙ e in
-    let i : ◌≡◌ {A = ℕ} 0 1 = cc in
-    absurd (omega arith))
-    (cases_Bool (nat_le n 2147483647))
+    let p = passed (nat_le n 2147483647) (pos n) z Bound e in
+    (n, refl, omega (arith, leb-true n 2147483647 p.0), sym p.1)
 
 negative_ok : (r : Option ℕ) (z : ℤ) → negative r ≡ Ok z → (n : ℕ) × (r ≡ Some (suc n)) × (n < 2147483648) × (z ≡ negsuc n)
-negative_ok None z e = absurd (let o : ◌≡◌ {A = ℕ} 0 1 = cc in omega arith)
-negative_ok (Some zero) z e = absurd (let o : ◌≡◌ {A = ℕ} 0 1 = cc in omega arith)
+negative_ok None z e = absurd cc
+negative_ok (Some zero) z e = absurd cc
 negative_ok (Some (suc n)) z e =
-    ⊎_elim
-    (λ y.
-    let f : Ok (negsuc n) ≡ Ok z = sym (negative_suc n ∙ cond-true (nat_le (suc n) 2147483648) (Ok (negsuc n)) (Err Bound) y) ∙ e in
-    (n, refl, omega (arith, leb-true (suc n) 2147483648 y), cc))
-    (λ o.
-    let f : Err Bound ≡ Ok z = sym (negative_suc n ∙ cond-false (nat_le (suc n) 2147483648) (Ok (negsuc n)) (Err Bound) o) ∙ e in
-    let i : ◌≡◌ {A = ℕ} 0 1 = cc in
-    absurd (omega arith))
-    (cases_Bool (nat_le (suc n) 2147483648))
+    let p = passed (nat_le (suc n) 2147483648) (negsuc n) z Bound (sym (negative_suc n) ∙ e) in
+    (n, refl, omega (arith, leb-true (suc n) 2147483648 p.0), sym p.1)
 
 from_minus : (bs : List ℕ) → slice_index bs 0 ≡ 45 → bs ≡ 45 ∷ drop 1 bs
 from_minus [] e = absurd (omega arith)
