@@ -53,9 +53,7 @@ pub fn opened(letter: u8) -> Line
     ensures { spelt result ≡ 40 ∷ letter ∷ 32 ∷ [] }
 {
     let mut line = Line::new();
-    line.push(b'(');
-    line.push(letter);
-    line.push(b' ');
+    line.extend(&[b'(', letter, b' ']);
     line
 }
 

@@ -29,6 +29,7 @@ fn combine_bearings(op: Operation, a: f32, b: f32) -> Result<Reading, Cause>
         _ if !(is_on_circle(a) && is_on_circle(b)) => Err(Cause::OutOfRange),
         Operation::Sum => Ok(Reading::Bearing(turn_on(a, b))),
         Operation::Difference => Ok(Reading::Bearing(turn_back(a, b))),
+        // the first of 0 and minus zero, between which `min` leaves the choice open
         Operation::Smaller => Ok(Reading::Bearing(if a <= b { a } else { b })),
         Operation::Equal => Ok(Reading::Count(i32::from(a == b))),
         Operation::Less => Ok(Reading::Count(i32::from(a < b))),
