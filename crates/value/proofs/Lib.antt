@@ -1,2 +1,3 @@
 pub mod HexReading
+pub mod Tokens
 pub mod Writing

@@ -1,5 +1,5 @@
 -- Bearings that a sheet holds, by the bits of their floats.
-use Rattle.std.specs.Prelude.{◌≡◌, ℕ, ◌%◌, ◌<◌, ◌≤◌, true, false, cond, not, T, List, Some, None, Ok, Err, Option, from_bits, nat_lt, to_bits, refl, Float}
+use Rattle.std.specs.Prelude.{◌≡◌, ℕ, ◌%◌, ◌<◌, ◌≤◌, true, false, cond, not, T, List, Some, None, Ok, Err, Option, from_bits, nat_lt, to_bits, Float}
 use Rattle.std.proofs.Common.{sym, ap, subst, ◌∙◌, ⊎_elim}
 use Rattle.std.specs.Float.{NotNan, binary32}
 use Rattle.std.specs.Float.Ieee.{fits, is_nan, nan_bits, le}

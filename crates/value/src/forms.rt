@@ -1,16 +1,17 @@
-ghost use Rattle.std.specs.Prelude.{◌≡◌, ◌^◌, ◌≤◌, [], ◌∷◌, length, pos, neg_ℤ};
+ghost use Rattle.std.specs.Prelude.{◌≡◌, ◌^◌, ◌≤◌, [], ◌∷◌, map, pos, neg_ℤ};
 ghost use Rattle.std.specs.Option.{option_map};
 ghost use Rattle.std.specs.Fmt.{signed_decimal};
 ghost use Rattle.text.specs.Line.{spelt, added};
+ghost use Rattle.text.specs.Tokens.{seen};
 ghost use Rattle.value.specs.Counts.{integer};
-ghost use Rattle.value.specs.Forms.{tagged, tagged_at, lone_at, seen_at};
+ghost use Rattle.value.specs.Forms.{tagged, tagged_part, lone};
 
 use crate::codes::Fault;
 use text::{Line, Token, number};
 
 // The part of `(L PART)`, where the tokens are those of the letter's form.
 pub fn part_after<'a>(letter: u8, tokens: &[Token<'a>]) -> Option<&'a [u8]>
-    ensures { option_map (λ x. x.now) result ≡ tagged_at letter (length tokens.now) (seen_at tokens.now) }
+    ensures { option_map (λ x. x.now) result ≡ tagged_part letter (map seen tokens.now) }
 {
     match tokens {
         [
@@ -26,7 +27,7 @@ pub fn part_after<'a>(letter: u8, tokens: &[Token<'a>]) -> Option<&'a [u8]>
 
 // Whether the tokens are those of `(e)`.
 pub fn is_blank(tokens: &[Token]) -> bool
-    ensures { result ≡ lone_at 101 (length tokens.now) (seen_at tokens.now) }
+    ensures { result ≡ lone 101 (map seen tokens.now) }
 {
     matches!(
         tokens,
