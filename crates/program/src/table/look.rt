@@ -19,8 +19,8 @@ impl Program {
         ensures value { result ≡ length (slice_index_or (code self.now) t []) }
         ensures bound { result ≤ 1024 }
     {
-        let Program { lens, count, .. } = self;
-        if t < *count { lens[t] as usize } else { 0 }
+        let Program { spans, count, .. } = self;
+        if t < *count { spans[t].len as usize } else { 0 }
     }
 
     // The operation at a task's place; `Finish` where there is none.
@@ -29,13 +29,12 @@ impl Program {
     {
         let Program {
             ops,
-            firsts,
-            lens,
+            spans,
             count,
             ..
         } = self;
-        if t < *count && place < lens[t] as usize {
-            ops[firsts[t] as usize + place]
+        if t < *count && place < spans[t].len as usize {
+            ops[spans[t].first as usize + place]
         } else {
             Op::Finish
         }

@@ -5,14 +5,8 @@ use Rattle.program.proofs.table.Program.len.Goals as goal
 pub returns-then-t-count : goal.returns-then-t-count
 returns-then-t-count c =
     let p = c.args.self.now in
-    let e = len_at p.ops p.used p.firsts p.lens p.count (of p) c.args.t c.if-t-count.true in
-    let w = lens_within p.ops p.used p.firsts p.lens p.count (of p) c.args.t c.if-t-count.true in
-    record { value = sym e; bound = omega (arith, w) }
+    let w = lens_within p.ops p.used p.spans p.count (of p) c.args.t c.if-t-count.true in
+    record { value = sym (len_at p.ops p.used p.spans p.count (of p) c.args.t c.if-t-count.true); bound = omega (arith, w, p.sizes.3) }
 
-pub returns-else-t-count : goal.returns-else-t-count
-returns-else-t-count c =
-    let p = c.args.self.now in
-    record {
-      value = sym (ap length (len_past p.ops p.used p.firsts p.lens p.count (of p) c.args.t c.if-t-count.false));
-      bound = omega arith;
-    }
+pub returns-else-t-count-clause-value : goal.returns-else-t-count-clause-value
+returns-else-t-count-clause-value c = let p = c.args.self.now in sym (ap length (len_past p.ops p.used p.spans p.count (of p) c.args.t c.if-t-count.false))
