@@ -1,17 +1,17 @@
 -- What a program's table keeps: each of its methods, as a fact about its lists.
-use Rattle.std.proofs.Common.{◌≡◌, ℕ, ◌+◌, ◌-◌, ◌<◌, ◌≤◌, List, [], ◌∷◌, ◌++◌, length, get_or, take, set, sum_by, sum, sym, refl, ap, ◌∙◌, ⊎_elim, arith}
+use Rattle.std.proofs.Common.{◌≡◌, ℕ, ◌+◌, ◌-◌, ◌<◌, ◌≤◌, List, [], ◌∷◌, ◌++◌, length, get_or, take, drop, set, sum_by, sum, sym, refl, ap, ◌∙◌, ⊎_elim, arith}
 use Rattle.std.proofs.Math.ListN.{get_or-map}
 use Rattle.std.proofs.Math.Seq.{map-set_same}
-use Rattle.std.proofs.lemmas.List.{take_more, take_more_set, take-take, take-set-le, length-take-le, length-map, map-set, get_or-take, get_or-set_same, get_or-set_other, get_or_past, length-set}
+use Rattle.std.proofs.lemmas.List.{take_more, take_more_set, take-take, drop-take, take-set-le, length-take-le, length-map, map-set, get_or-take, get_or-set_same, get_or-set_other, get_or_past, length-set}
 use Rattle.std.proofs.lemmas.List.Sums.{sum_by_push}
 use Rattle.std.proofs.lemmas.Bool.{cases_eq}
 use Rattle.program.specs.Code.{on_last, chunks}
 use Rattle.program.specs.declared.table.Program.{Program}
 use Rattle.program.specs.declared.table.Span.{Span}
 use Rattle.program.specs.Spans.{firsts, lens}
-use Rattle.program.proofs.Chunks.{length-chunks, chunks_push, sum-chunks, chunks_grow, piece_length, piece_at, ends-within}
+use Rattle.program.proofs.Chunks.{length-chunks, chunks_push, sum-chunks, chunks_grow, get_or-chunks, ends-within}
 
-abbrev nowhere : Span
+abbrev pub nowhere : Span
 nowhere = record { first = 0; len = 0 }
 
 -- the facts of a table of n tasks and u elements used
@@ -87,29 +87,42 @@ module _ {X : Type 0} (xs : List X) (u : ℕ) (ss : List Span) (n : ℕ) (k : Ke
   lens_at : (t : ℕ) → t < n → get_or (take n ns) t 0 ≡ len t
   lens_at t h = get_or-take n ns t 0 h ∙ len_is t
 
-  pub lens_within : (t : ℕ) → t < n → len t ≤ u
+  lens_within : (t : ℕ) → t < n → sum (take t (take n ns)) + len t ≤ u
   lens_within t h = omega (arith, ends-within (take n ns) t (in_lens t h), k.filled, lens_at t h)
 
-  pub len_at : (t : ℕ) → t < n → length (get_or lists t []) ≡ len t
-  len_at t h = piece_length (take n ns) (take u xs) t (in_lens t h) (k.filled ∙ sym used_length) ∙ lens_at t h
+  pub last_within : 0 < n → len (n - 1) ≤ u
+  last_within h = omega (arith, lens_within (n - 1) (omega arith))
 
-  pub len_past : (t : ℕ) → n ≤ t → get_or lists t [] ≡ []
-  len_past t h = get_or_past lists t [] (omega (arith, tasks))
+  pub none_past : (t : ℕ) → length (take n ss) ≤ t → get_or lists t [] ≡ []
+  none_past t h = get_or_past lists t [] (omega (arith, tasks, length-take-le n ss (omega (arith, k.spans, k.few))))
 
-  -- where an operation stands in the table
-  begins : (t : ℕ) → t < n → sum (take t (take n ns)) ≡ first t
-  begins t h = ap sum (take-take t n ns (omega arith)) ∙ (sym (k.placed t h) ∙ get_or-map (λ (s : Span). s.first) ss t nowhere)
+  -- where a task's operations stand in the table
+  module _ (t : ℕ) (s : Span) (h : t < length (take n ss)) (e : s ≡ get_or (take n ss) t nowhere) where
+    given : t < n
+    given = omega (arith, length-take-le n ss (omega (arith, k.spans, k.few)))
 
-  pub within-table : (t p : ℕ) → t < n → p < len t → first t + p < u
-  within-table t p h g = omega (arith, ends-within (take n ns) t (in_lens t h), k.filled, begins t h, lens_at t h)
+    there : s ≡ get_or ss t nowhere
+    there = e ∙ get_or-take n ss t nowhere given
 
-  pub op_at : (t p : ℕ) (d : X) → t < n → p < len t → get_or (get_or lists t []) p d ≡ get_or xs (first t + p) d
-  op_at t p d h g =
-      piece_at (take n ns) (take u xs) t p d (in_lens t h) (omega (arith, lens_at t h))
-      ∙ (ap (λ m. get_or (take u xs) (m + p) d) (begins t h) ∙ get_or-take u xs (first t + p) d (within-table t p h g))
+    begins : sum (take t (take n ns)) ≡ s.first
+    begins =
+        ap sum (take-take t n ns (omega (arith, given)))
+        ∙ (sym (k.placed t given) ∙ (get_or-map (λ (r : Span). r.first) ss t nowhere ∙ ap (λ (r : Span). r.first) (sym there)))
 
-  pub op_past : (t p : ℕ) (d : X) → t < n → len t ≤ p → get_or (get_or lists t []) p d ≡ d
-  op_past t p d h g = get_or_past (get_or lists t []) p d (omega (arith, len_at t h))
+    long : get_or (take n ns) t 0 ≡ s.len
+    long = lens_at t given ∙ ap (λ (r : Span). r.len) (sym there)
+
+    pub ends_by : s.first + s.len ≤ u
+    ends_by = omega (arith, lens_within t given, lens_at t given, begins, long)
+
+    pub ops_at : take (s.first + s.len - s.first) (drop s.first xs) ≡ get_or lists t []
+    ops_at =
+        let d : s.first + s.len - s.first ≡ s.len = omega arith in
+        let r : s.first + (u - s.first) ≡ u = omega (arith, ends_by) in
+        ap (λ m. take m (drop s.first xs)) d
+        ∙ (sym (take-take s.len (u - s.first) (drop s.first xs) (omega (arith, ends_by)))
+        ∙ (ap (take s.len) (sym (drop-take s.first (u - s.first) xs) ∙ ap (λ m. drop s.first (take m xs)) r)
+        ∙ ((λ i. take (sym long i) (drop (sym begins i) (take u xs))) ∙ sym (get_or-chunks (take n ns) (take u xs) t (in_lens t given)))))
 
   -- the table with an operation more of the last task
   abbrev grown : List Span

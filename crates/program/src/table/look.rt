@@ -14,18 +14,10 @@ impl Program {
         self.count
     }
 
-    // How many operations a task has; none where there is no such task.
-    pub fn len(&self, t: usize) -> usize
-        ensures value { result ≡ length (slice_index_or (code self.now) t []) }
-        ensures bound { result ≤ 1024 }
-    {
-        let Program { spans, count, .. } = self;
-        if t < *count { spans[t].len as usize } else { 0 }
-    }
-
-    // The operation at a task's place; `Finish` where there is none.
-    pub fn op(&self, t: usize, place: usize) -> Op
-        ensures { result ≡ slice_index_or (slice_index_or (code self.now) t []) place Finish }
+    // A task's operations, in order; none where there is no such task.
+    pub fn ops(&self, t: usize) -> &[Op]
+        ensures value { result.now ≡ slice_index_or (code self.now) t [] }
+        ensures bound { length result.now ≤ 1024 }
     {
         let Program {
             ops,
@@ -33,10 +25,25 @@ impl Program {
             count,
             ..
         } = self;
-        if t < *count && place < spans[t].len as usize {
-            ops[spans[t].first as usize + place]
-        } else {
-            Op::Finish
-        }
+        let Some(span) = spans[..*count].get(t) else {
+            return &[];
+        };
+        let first = span.first as usize;
+        &ops[first..first + span.len as usize]
+    }
+
+    // How many operations a task has; none where there is no such task.
+    pub fn len(&self, t: usize) -> usize
+        ensures value { result ≡ length (slice_index_or (code self.now) t []) }
+        ensures bound { result ≤ 1024 }
+    {
+        self.ops(t).len()
+    }
+
+    // The operation at a task's place; `Finish` where there is none.
+    pub fn op(&self, t: usize, place: usize) -> Op
+        ensures { result ≡ slice_index_or (slice_index_or (code self.now) t []) place Finish }
+    {
+        self.ops(t).get(place).copied().unwrap_or(Op::Finish)
     }
 }

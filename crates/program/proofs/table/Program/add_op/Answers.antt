@@ -1,7 +1,7 @@
-use Rattle.std.proofs.Common.{◌-◌, ◌<◌, ltb, length, sum_by, sym, arith}
+use Rattle.std.proofs.Common.{◌<◌, ltb, length, sum_by, sym, arith}
 use Rattle.program.specs.Program.{code}
 use Rattle.std.proofs.lemmas.Bool.{lt-ltb, le-ltb, and_from, and_left, and_right}
-use Rattle.program.proofs.Tables.{of, tasks, total, lens_within, op_added, op_kept}
+use Rattle.program.proofs.Tables.{of, tasks, total, last_within, op_added, op_kept}
 use Rattle.program.proofs.table.Program.add_op.Goals as goal
 use Rattle.program.proofs.table.Program.add_op.Goals.{then-t-eq0-via-then-t-eq0, then-t-eq0-via-else-t-eq0+then-n-ge1024}
 
@@ -18,7 +18,7 @@ returns-then-t-eq0-clause-value c =
 pub overflow_add-self-2 : goal.overflow_add-self-2
 overflow_add-self-2 c =
     let p = c.args.self.now in
-    let l = lens_within p.ops p.used p.spans p.count (of p) (p.count - 1) (omega arith) in
+    let l = last_within p.ops p.used p.spans p.count (of p) (omega arith) in
     omega arith
 
 pub invariant_of-self : goal.invariant_of-self
