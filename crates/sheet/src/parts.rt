@@ -1,7 +1,8 @@
 ghost use Rattle.std.specs.Prelude.{◌≡◌};
+ghost use Rattle.sheet.specs.declared.parts.LineFault.TheVariants.{TooMany};
 ghost use Rattle.sheet.specs.Lines.{line_fault};
 
-use program::Mode;
+use program::{Full, Mode};
 use value::Fault;
 
 // A cell: which side it is on, and its value.
@@ -27,6 +28,14 @@ impl From<Fault> for LineFault {
             Fault::Form => LineFault::BadForm,
             Fault::Bound => LineFault::PastBound,
         }
+    }
+}
+
+impl From<Full> for LineFault {
+    ghost from_gives = { λ _ r. r ≡ TooMany };
+
+    fn from(_full: Full) -> LineFault {
+        LineFault::TooMany
     }
 }
 

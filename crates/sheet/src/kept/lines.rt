@@ -50,9 +50,7 @@ impl<K: Kind> Sheet<K> {
             return Err(LineFault::PastBound);
         }
         let t = self.program.tasks();
-        if !self.program.add_task() {
-            return Err(LineFault::TooMany);
-        }
+        self.program.add_task()?;
         self.owed[t] = owed as u8;
         Ok(())
     }
@@ -61,9 +59,7 @@ impl<K: Kind> Sheet<K> {
         requires { 0 < length (content self.old).code }
         ensures { Answers result (op_on (content self.old) (Ok op)) (content self.new) }
     {
-        if !self.program.add_op(op) {
-            return Err(LineFault::TooMany);
-        }
+        self.program.add_op(op)?;
         Ok(())
     }
 }

@@ -10,5 +10,5 @@ pub returns : goal.returns
 returns g c =
     let s = c.args.self.now in
     let p = c.add_task.new.self in
-    let k = task_more (content s) s.owed (code p) c.args.owed refl s.sizes.4 c.if-owed-gt255.false (ltb-true _ 16 (sym c.if-not-add_task.ensures.value)) c.if-not-add_task.ensures.after in
+    let k = task_more (content s) s.owed (code p) c.args.owed refl s.sizes.4 c.if-owed-gt255.false (ltb-true _ 16 (sym c.in_ok-add_task.ensures.value)) c.in_ok-add_task.ensures.after in
     subst (λ (t : ℕ). task_on (content s) (Some c.args.owed) ≡ Ok (record { cells = (content s).cells; consts = (content s).consts; owed = take (length (code p)) (set s.owed t c.args.owed); code = code p })) (sym c.tasks-t.ensures.value) k
