@@ -1,7 +1,6 @@
 pub mod Content
 pub mod Operations
 pub mod Lines
-pub mod Numbers
 pub mod Ends
 pub mod Reading
 pub mod Writing
