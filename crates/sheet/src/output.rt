@@ -12,10 +12,9 @@ pub(crate) fn put(out: &mut [u8], at: usize, line: &Line) -> usize
     ensures bound { result ≤ at + 32 }
 {
     let bytes = line.as_slice();
-    for i in 0..bytes.len() {
-        if at + i < out.len() {
-            out[at + i] = bytes[i];
-        }
+    if at < out.len() {
+        let n = bytes.len().min(out.len() - at);
+        out[at..at + n].copy_from_slice(&bytes[..n]);
     }
     at + bytes.len()
 }
