@@ -3,7 +3,11 @@ use Rattle.std.proofs.Common.{◌≡◌, ℕ, zero, suc, ◌+◌, ◌<◌, ◌�
 use Rattle.std.specs.List.{flat_map}
 use Rattle.std.proofs.lemmas.List.{take_more, take_all, flat_map_more, length-append}
 use Rattle.program.specs.declared.Op.{Op}
-use Rattle.sheet.specs.Output.{over}
+use denote.Ref.{Bor}
+use Rattle.std.specs.Fn.{Shared}
+use Rattle.text.specs.Line.{spelt}
+use Rattle.text.specs.declared.output.Line.{Line}
+use Rattle.sheet.specs.Output.{over, Spells}
 use Rattle.sheet.specs.Writing.{task_text, op_text, tasks_text}
 use Rattle.sheet.proofs.Overlaid.{over_append}
 
@@ -30,6 +34,10 @@ put_all f at xs i start out end h p = subst (λ l. Put at (flat_map f l) start o
 pub line_put : {X : Type 0} (f : X → List ℕ) (at : ℕ) (xs : List X) (i : ℕ) (x : X) (line start out next : List ℕ) (end after : ℕ) → i < length xs → x ≡ get_or xs i x → line ≡ f x → Put at (flat_map f (take i xs)) start out end → next ≡ over end line out → after ≡ end + length line → Put at (flat_map f (take (i + 1) xs)) start next after
 line_put f at xs i x line start out next end after h e is p laid ends =
     put_more at (flat_map f (take i xs)) line (flat_map f (take (i + 1) xs)) start out next end after p laid ends (ap (flat_map f) (take_more xs i x h) ∙ (sym (flat_map_more f [] (take i xs) (get_or xs i x)) ∙ ap (λ l. flat_map f (take i xs) ++ l) (ap f (sym e) ∙ sym is)))
+
+-- the line of a call is the item's text
+pub spelt_at : {F T : Type 0} (g : Shared F (Bor T × Unit {0}) Line) (f : F) (text : T → List ℕ) → Spells g f text → (p : Bor T) (l : Line) → g.post f (p, tt) l → spelt l ≡ text p.now
+spelt_at g f text h p l met = h p.now l (record { shown = p; shows = refl; says = record { met = met } })
 
 pub tasks_next : (os : List ℕ) (cs : List (List Op)) (t : ℕ) → t < length os → t < length cs → tasks_text (take (suc t) os) (take (suc t) cs) ≡ tasks_text (take t os) (take t cs) ++ (task_text (get_or os t 0) ++ flat_map op_text (get_or cs t []))
 tasks_next [] cs t h g = absurd (omega arith)
