@@ -19,6 +19,10 @@ module _ {V : Type 0} (nought : V) where
   abbrev pub copied : List V → ℕ → ℕ → List V
   copied xs i j = slice_set xs j (slice_index_or xs i nought)
 
+  -- four places from j on take what stands from i on
+  abbrev pub four_copied : List V → ℕ → ℕ → List V
+  four_copied xs i j = copied (copied (copied (copied xs (i + 0) (j + 0)) (i + 1) (j + 1)) (i + 2) (j + 2)) (i + 3) (j + 3)
+
   -- the registers of t are kept as its opening ones
   abbrev pub kept : List V → ℕ → List V
   kept xs t =
