@@ -26,9 +26,7 @@ fn comes_back<F: Fn(&[u8], &mut [u8]) -> Result<usize, Refusal>>(
     assert!(rt; 0 < n && n < 1000);
     for room in n - 1..n + 4 {
         let mut out = repeated(heap, "", room, "#", "")?;
-        let answer = rewrite(text.as_bytes(), out.as_mut_slice()).map_err(|refusal| refusal
-            .told()
-            .number);
+        let answer = rewrite(text.as_bytes(), out.as_mut_slice()).map_err(|e| e.told().number);
         let (told, front, rest) = if room < n {
             (Err(26), "", room)
         } else {

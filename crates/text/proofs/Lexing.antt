@@ -2,6 +2,7 @@
 use Rattle.std.proofs.Common.{◌≡◌, ℕ, zero, suc, ◌+◌, ◌<◌, ◌≤◌, Bool, true, false, cond, subst, List, [], ◌∷◌, ◌++◌, length, take, drop, sym, refl, ap, ◌∙◌, ⊎_elim, append-nil, one-add, arith}
 use Rattle.std.specs.List.{flat_map, prefix_len, take_while}
 use Rattle.std.proofs.lemmas.Bool.{cond-true, cond-false, cases_Bool}
+use Rattle.std.proofs.lemmas.Grind.{common_steps}
 use Rattle.text.specs.Tokens.{Tok, end, number, word, mark, rest, text, figure, atom, part, prefixed, lexed, trimmed, tokens}
 
 -- a byte of a part before a part is one part
@@ -62,11 +63,7 @@ joined_prefixed b (rest w ∷ ts) = joined_part b [] (figure b) (rest w ∷ ts)
 -- tokens put together again are the bytes
 pub lossless : (bs : List ℕ) → flat_map text (lexed bs) ≡ bs
 lossless [] = refl
-lossless (b ∷ bs) =
-    ⊎_elim
-    (λ y. ap (flat_map text) (cond-true (atom b) (prefixed b (lexed bs)) (mark b ∷ lexed bs) y) ∙ (joined_prefixed b (lexed bs) ∙ ap (λ l. b ∷ l) (lossless bs)))
-    (λ n. ap (flat_map text) (cond-false (atom b) (prefixed b (lexed bs)) (mark b ∷ lexed bs) n) ∙ ap (λ l. b ∷ l) (lossless bs))
-    (cases_Bool (atom b))
+lossless (b ∷ bs) = grind (arith, common_steps, lossless bs, joined_prefixed b (lexed bs))
 
 joined_trimmed : (n : ℕ) (ts : List Tok) → flat_map text (trimmed n ts) ≡ flat_map text ts
 joined_trimmed n [] = refl
@@ -92,11 +89,7 @@ length-prefixed b (rest w ∷ ts) = omega arith
 
 length-lexed : (bs : List ℕ) → length (lexed bs) ≤ length bs
 length-lexed [] = omega arith
-length-lexed (b ∷ bs) =
-    ⊎_elim
-    (λ y. omega (arith, ap length (cond-true (atom b) (prefixed b (lexed bs)) (mark b ∷ lexed bs) y), length-prefixed b (lexed bs), length-lexed bs))
-    (λ n. omega (arith, ap length (cond-false (atom b) (prefixed b (lexed bs)) (mark b ∷ lexed bs) n), length-lexed bs))
-    (cases_Bool (atom b))
+length-lexed (b ∷ bs) = grind (arith, common_steps, length-lexed bs, length-prefixed b (lexed bs))
 
 pub tokens-short : (bs : List ℕ) → length bs ≤ 23 → tokens bs ≡ lexed bs
 tokens-short bs h = few 23 (lexed bs) (omega (arith, length-lexed bs))

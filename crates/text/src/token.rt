@@ -1,7 +1,7 @@
 // A part of a line. Numbers and words borrow the line's bytes, so that a kind's own reader can take them.
 #[derive(Clone, Copy, Default)]
 pub enum Token<'a> {
-    // the blank of a list of tokens; no bytes are it
+    // a place that holds no token
     #[default]
     End,
     Number(&'a [u8]),
