@@ -4,14 +4,14 @@ use Rattle.std.proofs.Common.{sym, ◌∙◌}
 use Rattle.text.specs.Tokens.{Tok, lexed}
 use Rattle.value.specs.Operations.{answer}
 
--- a value under a test has passed it
-pub passed : {X E : Type 0} (b : Bool) (x y : X) (e : E) → cond b (Ok x) (Err e) ≡ Ok y → (b ≡ true) × (x ≡ y)
-passed true x y e h = (refl, cc)
-passed false x y e h = absurd cc
+-- an answer under a test, where it is a value: the test has passed
+pub passed : {X E : Type 0} (b : Bool) (r : Result X E) (f : E) (x : X) → cond b r (Err f) ≡ Ok x → (b ≡ true) × (r ≡ Ok x)
+passed true r f x e = (refl, e)
+passed false r f x e = absurd cc
 
 pub present : {X : Type 0} (b : Bool) (o : Option X) (x : X) → cond b o None ≡ Some x → (b ≡ true) × (o ≡ Some x)
-present true o x h = (refl, h)
-present false o x h = absurd cc
+present true o x e = (refl, e)
+present false o x e = absurd cc
 
 -- an answer that is a value comes from a value
 pub answered : {X Y E : Type 0} (f : X → Y) (r : Result X E) (y : Y) → answer f r ≡ Ok y → (x : X) × (r ≡ Ok x) × (f x ≡ y)

@@ -42,9 +42,10 @@ pub bearing_there : (w : List ℕ) (o : Option ℕ) (x : Float) → hexed w ≡ 
 bearing_there w None x d e = absurd cc
 bearing_there w (Some n) x d e =
     let y = from_bits binary32 n in
-    let p = passed (held y) y x Bound e in
+    let p = passed (held y) (Ok y) Bound x e in
+    let is : y ≡ x = cc in
     let r = hex_of_hexed w n d in
     let b = to_bits-of_bits binary32 n r.0 (number_held y p.0) in
-    ap bearing_form (sym p.1)
+    ap bearing_form (sym is)
     ∙ (cond-true _ (Some (tagged 97 (hex 8 (to_bits binary32 y)))) None (and_from _ _ (is_true (fits binary32 y) (of_bits-fits binary32 n)) p.0)
     ∙ ap (λ l. Some (tagged 97 l)) (ap (hex 8) b ∙ r.1))

@@ -10,6 +10,7 @@ pub mod Laws
 pub mod Answers
 pub mod Hexes
 pub mod Places
+pub mod Decimals
 pub mod Signs
 pub mod Floats
 pub mod ReadingKindLemmas
