@@ -1,5 +1,5 @@
 // Marks: a book that keeps the readers of each cell.
-ghost use Rattle.std.specs.Prelude.{◌≡◌, ℕ, ◌<◌, true, false, ◌||◌, get_or, if◌then◌else◌, nat_eq, slice_index_or};
+ghost use Rattle.std.specs.Prelude.{◌≡◌, ℕ, ◌<◌, true, false, ◌||◌, if◌then◌else◌, nat_eq, slice_index_or};
 ghost use Rattle.book.specs.Seen.{meets, rested};
 ghost use Rattle.book.specs.Marked.{reads, marked, always};
 
