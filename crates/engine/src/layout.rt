@@ -1,5 +1,5 @@
 ghost use Rattle.std.specs.Prelude.{◌≡◌, ◌+◌, ◌*◌, ◌<◌, ◌≤◌, length};
-ghost use Rattle.engine.specs.Layout.{register_place, copied, kept, taken_back, cleared, four_copied};
+ghost use Rattle.engine.specs.Layout.{register_place, copied, kept, taken_back, cleared, run_copied};
 ghost use Rattle.engine.specs.Turns.{Lays};
 
 use crate::order::Register;
@@ -28,15 +28,15 @@ pub(crate) fn copy<K: Kind>(slice: &mut [K], from: usize, to: usize)
 }
 
 // Four places from one on take what stands in four from another on.
+// kept: `copy_within` speaks of a piece that is pasted, and what is promised here of single copies: it is no plainer.
 fn copy_four<K: Kind>(slice: &mut [K], from: usize, to: usize)
     requires from { from + 4 ≤ length slice.old }
     requires to { to + 4 ≤ length slice.old }
-    ensures { slice.new ≡ four_copied K.ZERO slice.old from to }
+    ensures { slice.new ≡ run_copied K.ZERO slice.old from to 4 }
 {
-    copy(slice, from, to);
-    copy(slice, from + 1, to + 1);
-    copy(slice, from + 2, to + 2);
-    copy(slice, from + 3, to + 3);
+    for i in 0..4 {
+        copy(slice, from + i, to + i);
+    }
 }
 
 impl<B: Book, K: Kind> Turn<'_, '_, B, K> {
@@ -62,13 +62,13 @@ impl<B: Book, K: Kind> Turn<'_, '_, B, K> {
     }
 
     // Its registers become the kind's zero.
+    // kept: `fill` asks that a clone cannot fail, and `Kind` does not say so.
     pub(crate) fn clear_registers(&mut self)
         ensures { Lays self.old self.new (cleared K.ZERO self.old.slice.now self.old.t) }
     {
         let first = REGISTERS + 4 * self.t;
-        self.slice[first] = K::ZERO;
-        self.slice[first + 1] = K::ZERO;
-        self.slice[first + 2] = K::ZERO;
-        self.slice[first + 3] = K::ZERO;
+        for i in 0..4 {
+            self.slice[first + i] = K::ZERO;
+        }
     }
 }

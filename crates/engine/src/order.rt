@@ -1,3 +1,4 @@
+// Orders: operations whose arguments are known to be in bounds, so that no function has to ask it of them.
 ghost use Rattle.std.specs.Prelude.{◌≡◌, ◌<◌, ◌≤◌, MatchOption};
 
 use program::Op;

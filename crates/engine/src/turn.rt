@@ -7,7 +7,7 @@ use book::Book;
 use faults::StepFault;
 use value::Kind;
 
-// A task's turn at a call: the engine, the caller's slice, which is long enough, and the task.
+// What a call works on: the engine, the caller's slice, which is long enough, and the task that takes its turn.
 #[derive(Drop)]
 pub(crate) struct Turn<'e, 's, B, K> {
     pub(crate) engine: &'e mut Engine<B>,
