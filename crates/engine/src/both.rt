@@ -1,7 +1,7 @@
 // The operations that are the same on both sides.
 // kept: five arms stand in the match of each side. One function for them would match on the order once more, and its
 // clause would have to say what five cases of both sides' definitions say.
-ghost use Rattle.std.specs.Prelude.{◌≡◌, ◌<◌};
+ghost use Rattle.std.specs.Prelude.{◌<◌};
 ghost use Rattle.engine.specs.Turns.{Acts};
 ghost use Rattle.engine.specs.Operations.{fetches, applies, branches, awaits, writes_cell};
 

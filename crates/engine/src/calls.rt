@@ -1,5 +1,4 @@
 // The calls.
-ghost use Rattle.std.specs.Prelude.{◌≡◌};
 ghost use Rattle.machine.specs.Effect.{meaning_of};
 ghost use Rattle.board.specs.Boards.{state_at};
 ghost use Rattle.engine.specs.World.{world_of, Does};

@@ -1,5 +1,4 @@
 // One step of a transaction.
-ghost use Rattle.std.specs.Prelude.{◌≡◌, ◌<◌};
 ghost use Rattle.engine.specs.Lookup.{op_at};
 ghost use Rattle.engine.specs.Turns.{Acts, left_in};
 ghost use Rattle.engine.specs.Operations.{reads_inside, acquires, writes_inside, starts_inside, step_inside};

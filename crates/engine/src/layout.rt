@@ -1,4 +1,4 @@
-ghost use Rattle.std.specs.Prelude.{◌≡◌, ◌+◌, ◌*◌, ◌<◌, ◌≤◌, length};
+ghost use Rattle.std.specs.Prelude.{◌≡◌, ◌+◌, ◌<◌, ◌≤◌, length};
 ghost use Rattle.engine.specs.Layout.{register_place, copied, kept, taken_back, cleared, run_copied};
 ghost use Rattle.engine.specs.Turns.{Lays};
 

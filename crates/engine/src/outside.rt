@@ -1,5 +1,4 @@
 // One step of a driver.
-ghost use Rattle.std.specs.Prelude.{◌≡◌, ◌<◌};
 ghost use Rattle.engine.specs.Lookup.{op_at};
 ghost use Rattle.engine.specs.Turns.{Acts};
 ghost use Rattle.engine.specs.Operations.{starts_outside, sets_mode, unprotects, step_outside};

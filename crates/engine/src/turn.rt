@@ -19,7 +19,6 @@ pub(crate) struct Turn<'e, 's, B, K> {
 
 impl<B: Book, K: Kind> Turn<'_, '_, B, K> {
     ghost use Rattle.program.specs.Program.{code};
-    ghost use Rattle.machine.specs.Effect.{meaning_of};
     ghost use Rattle.engine.specs.Lookup.{op_at};
     ghost use Rattle.engine.specs.Orders.{ordered, Within};
     ghost use Rattle.engine.specs.Turns.{Acts};
