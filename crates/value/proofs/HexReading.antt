@@ -40,12 +40,11 @@ no_hex bs i h e =
     (cases_Bool (all_hex bs)))))
 
 -- one digit more fits 32 bits
-pub room : (bs : List ℕ) (i n d : ℕ) → Sofar bs i n → i < 8 → Some d ≡ hex_digit_of (slice_index bs i) → n * 16 + d < 2 ^ 32
-room bs i n d s h x =
-    let k = known (slice_index bs i) d x in
-    let j : i ≤ 7 = omega arith in
-    let p : 16 ^ i ≤ 16 ^ 7 = pow-le-pow_right (lit< tt) j in
-    omega (arith, s.fits, k.2)
+pub room : (i n : ℕ) → i < 8 → n < 16 ^ i → n * 16 + 15 < 2 ^ 32
+room i n h l = let j : i ≤ 7 = omega arith in let p : 16 ^ i ≤ 16 ^ 7 = pow-le-pow_right (lit< tt) j in omega arith
+
+pub fitting : (bs : List ℕ) (i n d : ℕ) → Sofar bs i n → i < 8 → Some d ≡ hex_digit_of (slice_index bs i) → n * 16 + d < 2 ^ 32
+fitting bs i n d s h x = let k = known (slice_index bs i) d x in omega (arith, room i n h s.fits, k.2)
 
 pub finished : (bs : List ℕ) (i n : ℕ) → length bs ≡ 8 → length bs ≤ i → Sofar bs i n → Some n ≡ hexed bs
 finished bs i n l h s =

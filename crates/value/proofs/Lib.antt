@@ -1,3 +1,2 @@
 pub mod HexReading
-pub mod Tokens
 pub mod Writing

@@ -1,7 +1,9 @@
 -- The forms of values: one pair of brackets around a letter and mostly, after a space, a part.
-use Rattle.std.specs.Prelude.{◌≡◌, ℕ, Bool, false, cond, ◌&&◌, List, [], ◌∷◌, ◌++◌, length, get_or, Some, None, Option, ◌==◌, ◌≢◌, slice_index}
+use Rattle.std.specs.Prelude.{◌≡◌, ℕ, Bool, false, cond, ◌&&◌, List, [], ◌∷◌, ◌++◌, length, get_or, Some, None, Option, ◌==◌, ◌≢◌, slice_index, slice_index_or}
 use Rattle.std.specs.List.{AllByRecursion}
-use Rattle.text.specs.Tokens.{Tok, end, number, word, mark, rest}
+use Rattle.text.specs.Tokens.{Tok, end, number, word, mark, rest, seen}
+use Rattle.text.specs.declared.token.Token.{Token}
+use Rattle.text.specs.declared.token.Token.TheVariants.{End}
 
 -- no bracket and no line feed
 abbrev pub Plain : ℕ → Type 0
@@ -39,14 +41,23 @@ part_of (word w) = Some w
 part_of (mark b) = None
 part_of (rest w) = None
 
--- the part, where the tokens are those of the letter's form
-abbrev pub tagged_part : ℕ → List Tok → Option (List ℕ)
-tagged_part letter ts =
+-- the part, where n tokens in their places are those of the letter's form
+abbrev pub tagged_at : ℕ → ℕ → (ℕ → Tok) → Option (List ℕ)
+tagged_at letter n at =
     cond
-    (length ts == 5 && (is_mark 40 (get_or ts 0 end) && (is_letter letter (get_or ts 1 end) && (is_mark 32 (get_or ts 2 end) && is_mark 41 (get_or ts 4 end)))))
-    (part_of (get_or ts 3 end)) None
+    (n == 5 && (is_mark 40 (at 0) && (is_letter letter (at 1) && (is_mark 32 (at 2) && is_mark 41 (at 4)))))
+    (part_of (at 3)) None
+
+abbrev pub tagged_part : ℕ → List Tok → Option (List ℕ)
+tagged_part letter ts = tagged_at letter (length ts) (λ k. get_or ts k end)
 
 -- whether they are those of a letter alone in its brackets
+abbrev pub lone_at : ℕ → ℕ → (ℕ → Tok) → Bool
+lone_at letter n at = n == 3 && (is_mark 40 (at 0) && (is_letter letter (at 1) && is_mark 41 (at 2)))
+
 abbrev pub lone : ℕ → List Tok → Bool
-lone letter ts =
-    length ts == 3 && (is_mark 40 (get_or ts 0 end) && (is_letter letter (get_or ts 1 end) && is_mark 41 (get_or ts 2 end)))
+lone letter ts = lone_at letter (length ts) (λ k. get_or ts k end)
+
+-- a token in its place
+abbrev pub seen_at : List Token → ℕ → Tok
+seen_at ts k = seen (slice_index_or ts k End)

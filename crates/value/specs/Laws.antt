@@ -62,7 +62,7 @@ count_there z ts part t e =
     cond-true (in_32 z) (Some (tagged 110 (signed_decimal z))) None s.0
     ∙ ap Some (ap (tagged 110) (sym s.1) ∙ sym (joined_tagged 110 ts part t))
 
-worded_hex : (n : ℕ) → Worded (hex 8 n)
+pub worded_hex : (n : ℕ) → Worded (hex 8 n)
 worded_hex n = record {
   some = omega (arith, length_hex 8 n);
   few = omega (arith, length_hex 8 n);

@@ -1,11 +1,13 @@
 -- Tokens in their places: the tokens of a form, and the bytes of tokens that are a form's.
-use Rattle.std.specs.Prelude.{◌≡◌, ℕ, ◌<◌, ◌≤◌, Bool, true, false, cond, List, [], ◌∷◌, ◌++◌, length, Some, ◌==◌, slice_index, slice_index_or, refl}
-use Rattle.std.proofs.Common.{ap, ◌∙◌, arith}
+use Rattle.std.specs.Prelude.{◌≡◌, ℕ, zero, suc, ◌<◌, ◌≤◌, Bool, true, false, cond, List, [], ◌∷◌, ◌++◌, map, length, Some, ◌==◌, slice_index, slice_index_or, refl}
+use Rattle.std.proofs.Common.{sym, ap, ◌∙◌, arith}
 use Rattle.std.specs.List.{flat_map, AllByRecursion}
 use Rattle.std.proofs.lemmas.Bool.{cond-true, and_parts, eqb-true}
-use Rattle.text.specs.Tokens.{Tok, end, number, word, mark, rest, text, figure, atom, part, prefixed, lexed}
+use Rattle.text.specs.Tokens.{Tok, end, number, word, mark, rest, seen, text, figure, atom, part, prefixed, lexed}
+use Rattle.std.proofs.lemmas.List.{length-map}
+use Rattle.text.specs.declared.token.Token.{Token}
 use Rattle.value.specs.Answers.{present}
-use Rattle.value.specs.Forms.{tagged, is_mark, is_letter, part_of, tagged_part, lone}
+use Rattle.value.specs.Forms.{tagged, is_mark, is_letter, part_of, tagged_at, tagged_part, lone_at, lone, seen_at}
 
 onto_part : (b c : ℕ) (w : List ℕ) (f : Bool) (ts : List Tok) → prefixed b (cond f (number (c ∷ w)) (word (c ∷ w)) ∷ ts) ≡ part b (c ∷ w) ∷ ts
 onto_part b c w true ts = refl
@@ -52,6 +54,18 @@ text_part (number v) w e = cc
 text_part (word v) w e = cc
 text_part (mark c) w e = absurd cc
 text_part (rest v) w e = absurd cc
+
+-- tokens by place, as they are and as they are seen
+place : (ts : List Token) (k : ℕ) → seen_at ts k ≡ slice_index_or (map seen ts) k end
+place [] k = refl
+place (t ∷ ts) zero = refl
+place (t ∷ ts) (suc k) = place ts k
+
+pub tagged_seen : (letter : ℕ) (ts : List Token) → tagged_at letter (length ts) (seen_at ts) ≡ tagged_part letter (map seen ts)
+tagged_seen letter ts = λ i. tagged_at letter (sym (length-map ts seen) i) (λ k. place ts k i)
+
+pub lone_seen : (letter : ℕ) (ts : List Token) → lone_at letter (length ts) (seen_at ts) ≡ lone letter (map seen ts)
+lone_seen letter ts = λ i. lone_at letter (sym (length-map ts seen) i) (λ k. place ts k i)
 
 -- a part that may stand in a form: short, and letters, digits and minus alone
 pub record Worded (w : List ℕ) : Type 0 where

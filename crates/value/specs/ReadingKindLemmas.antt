@@ -40,7 +40,7 @@ back (Bearing x) bs e =
     laws.read_as reading_reads (reading_at None) o.2 refl (λ t. refl) ∙ ap (answer Bearing) (bearing_back x o.0 o.1)
 
 -- what is read as a reading is its form
-by_part : (v : Reading) (ts : List Tok) (n a : Option (List ℕ)) → tagged_part 110 ts ≡ n → tagged_part 97 ts ≡ a → reading_at n a ≡ Ok v → reading_form v ≡ Some (flat_map text ts)
+pub by_part : (v : Reading) (ts : List Tok) (n a : Option (List ℕ)) → tagged_part 110 ts ≡ n → tagged_part 97 ts ≡ a → reading_at n a ≡ Ok v → reading_form v ≡ Some (flat_map text ts)
 by_part v ts (Some part) a t u e =
     let r = answered Count (integer part) v e in
     ap reading_form (sym r.2) ∙ laws.count_there r.0 ts part t r.1

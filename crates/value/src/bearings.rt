@@ -69,7 +69,7 @@ pub fn spell_bearing(x: f32) -> Option<Line>
         return None;
     }
     let mut line = opened(b'a');
-    push_hex(&mut line, 8, x.to_bits());
+    push_hex(&mut line, x.to_bits());
     line.push(b')');
     Some(line)
 }

@@ -42,12 +42,19 @@ fn digit_byte(d: u8) -> u8
 
 // The last `k` digits of the number.
 #[tactic(auto, using(crate::proofs::Writing::hex_more, crate::proofs::Writing::hex_one))]
-pub fn push_hex(line: &mut Line, k: u8, n: u32)
+fn push_digits(line: &mut Line, k: u8, n: u32)
     requires { 0 < k }
     ensures { spelt line.new ≡ added (spelt line.old) (hex k n) }
 {
     if k > 1 {
-        push_hex(line, k - 1, n / 16);
+        push_digits(line, k - 1, n / 16);
     }
     line.push(digit_byte((n % 16) as u8));
+}
+
+// The number's eight digits.
+pub fn push_hex(line: &mut Line, n: u32)
+    ensures { spelt line.new ≡ added (spelt line.old) (hex 8 n) }
+{
+    push_digits(line, 8, n);
 }
