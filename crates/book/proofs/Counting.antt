@@ -87,15 +87,6 @@ moved_at true true n k x y h e = ap (λ (z : Option ℕ). moved (cond (not (is_s
 moved_at true false n k x y h e = refl
 moved_at false b n k x y h e = refl
 
-some_same : (m n : ℕ) → ◌≡◌ {A = Option ℕ} (Some m) (Some n) → m ≡ n
-some_same m n e = cc
-
-first_at : (a b : Bool) (n k m : ℕ) (x y : Option ℕ) → (b ≡ true → n ≡ k) → (x ≡ Some m → m ≤ k) → cond (a && (b && not (is_some y))) (Some n) x ≡ Some m → m ≤ k
-first_at true true n k m x None e ok f = let g : n ≡ m = some_same n m f in let d : n ≡ k = e refl in omega arith
-first_at true true n k m x (Some z) e ok f = ok f
-first_at true false n k m x y e ok f = ok f
-first_at false b n k m x y e ok f = ok f
-
 module _ (ts : List Task) (commits : List ℕ) (new : Task) (t c : ℕ) (held : Bool) (h : t < length ts) (flagged : new.flag ≡ ((task_at ts t).flag || held))
     (kept : (d : ℕ) → get_or new.first d None ≡ cond (eqb d c && not (is_some (first_note ts t c))) (Some (get_or commits c 0)) (first_note ts t d)) where
   placed : (u d : ℕ) → first_note (set ts t new) u d ≡ cond (eqb u t && (eqb d c && not (is_some (first_note ts t c)))) (Some (get_or commits c 0)) (first_note ts u d)
@@ -136,9 +127,6 @@ module _ (ts : List Task) (commits : List ℕ) (new : Task) (t c : ℕ) (held : 
           ∙ swap (task_at ts t).flag held (outdated (task_at ts t).first commits)
       go false e = refl
 
-  pub noting_first : ((u d n : ℕ) → first_note ts u d ≡ Some n → n ≤ get_or commits d 0) → (u d n : ℕ) → first_note (set ts t new) u d ≡ Some n → n ≤ get_or commits d 0
-  noting_first ok u d n e = first_at (eqb u t) (eqb d c) (get_or commits c 0) (get_or commits d 0) n _ _ (same_count d) (ok u d n) (sym (placed u d) ∙ e)
-
 -- ---- a task finishes
 
 -- one cell: is it in the set (k), its count before (n) and after (m), and its first note (x)
@@ -147,9 +135,6 @@ stale_at None true n m e h = rw (and_right (leb 255 n) false refl)
 stale_at None false n m e h = refl
 stale_at (Some f) false n m e h = rw e (sym (or-false (not (eqb f n))))
 stale_at (Some f) true n m e h = let g : f ≤ n = h f refl in grind (arith, nat_tests)
-
-risen_least : (k : Bool) (n m : ℕ) → m ≡ cond (k && ltb n 255) (n + 1) n → n ≤ m
-risen_least k n m e = grind (arith, nat_tests)
 
 module _ (old new : Task) (cells : List Bool) (commits after : List ℕ) (flagged : new ≡ flagging (worn old.first cells commits) old) where
   pub finish-noted : (c : ℕ) → is_some (get_or new.first c None) ≡ is_some (get_or old.first c None)
@@ -165,12 +150,6 @@ module _ (old new : Task) (cells : List Bool) (commits after : List ℕ) (flagge
       ∙ ap (λ (p : ℕ → Bool). any p 64) (fun_ext (λ c. stale_at (get_or old.first c None) (get_or cells c false) (get_or commits c 0) (get_or after c 0) (rise c) (ok c)))
       ∙ sym (any_or _ _ 64))
       ∙ sym (or_assoc old.flag (outdated old.first commits) (meets (λ c. is_some (get_or old.first c None)) (λ c. get_or cells c false)))
-
-  pub finish_first : ((c : ℕ) → get_or after c 0 ≡ risen cells commits c) → ((c n : ℕ) → get_or old.first c None ≡ Some n → n ≤ get_or commits c 0)
-      → (c n : ℕ) → get_or new.first c None ≡ Some n → n ≤ get_or after c 0
-  finish_first rise ok c n e =
-      let least = risen_least (get_or cells c false) (get_or commits c 0) (get_or after c 0) (rise c) in
-      omega (arith, ok c n (sym (ap (λ (k : Task). get_or k.first c None) flagged) ∙ e))
 
 pub left_bounds : (k : Bool) (n m : ℕ) → m ≡ cond (k && ltb n 255) (n + 1) n → (255 - m ≤ 255 - n) × (255 - n ≤ (255 - m) + cond k 1 0)
 left_bounds true n m e = (grind (arith, nat_tests), grind (arith, nat_tests))

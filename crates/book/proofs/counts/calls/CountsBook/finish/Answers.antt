@@ -2,13 +2,8 @@ use Rattle.std.proofs.Common.{ℕ, false, get_or, ap, ◌∙◌, arith}
 use Rattle.book.specs.Tasks.{task_at}
 use Rattle.book.specs.Counted.{counted}
 use Rattle.book.proofs.Changes.{is_finished, spends}
-use Rattle.book.proofs.Counting.{finish-noted, finish-stale, finish_first, left_bounds}
+use Rattle.book.proofs.Counting.{finish-noted, finish-stale, left_bounds}
 use Rattle.book.proofs.counts.calls.CountsBook.finish.Goals as goal
-
-pub invariant_of-self : goal.invariant_of-self
-invariant_of-self c =
-    let old = c.args.self.now in
-    record { ok = λ u. finish_first (task_at old.tasks u) (task_at c.flag_worn.new.tasks u) c.args.cells.now old.commits c.count_all.new.commits (c.flag_worn.ensures u) c.count_all.ensures (old.ok u) }
 
 pub returns-then-t-lt16 : goal.returns-then-t-lt16
 returns-then-t-lt16 c =
