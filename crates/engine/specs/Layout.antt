@@ -1,5 +1,5 @@
 -- The working slice: cells from 0, their saved values from 64, registers from 128, opening registers from 192, constants from 256; 320 places.
-use Rattle.std.specs.Prelude.{ℕ, zero, suc, ◌+◌, ◌*◌, List, slice_index_or, slice_set}
+use Rattle.std.specs.Prelude.{ℕ, ◌+◌, ◌*◌, List, slice_index_or, slice_set}
 
 abbrev pub saved_place : ℕ → ℕ
 saved_place c = 64 + c
@@ -18,16 +18,6 @@ module _ {V : Type 0} (nought : V) where
   -- place j takes what stands at i
   abbrev pub copied : List V → ℕ → ℕ → List V
   copied xs i j = slice_set xs j (slice_index_or xs i nought)
-
-  -- n places from j on take what stands from i on
-  abbrev pub run_copied : List V → ℕ → ℕ → ℕ → List V
-  run_copied xs i j zero = xs
-  run_copied xs i j (suc n) = copied (run_copied xs i j n) (i + n) (j + n)
-
-  -- n places from i on become zero
-  abbrev pub run_cleared : List V → ℕ → ℕ → List V
-  run_cleared xs i zero = xs
-  run_cleared xs i (suc n) = slice_set (run_cleared xs i n) (i + n) nought
 
   -- the registers of t are kept as its opening ones
   abbrev pub kept : List V → ℕ → List V

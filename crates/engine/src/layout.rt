@@ -1,5 +1,5 @@
 ghost use Rattle.std.specs.Prelude.{◌≡◌, ◌+◌, ◌<◌, ◌≤◌, length};
-ghost use Rattle.engine.specs.Layout.{register_place, copied, kept, taken_back, cleared, run_copied};
+ghost use Rattle.engine.specs.Layout.{register_place, copied, kept, taken_back, cleared};
 ghost use Rattle.engine.specs.Turns.{Lays};
 
 use crate::order::Register;
@@ -27,18 +27,6 @@ pub(crate) fn copy<K: Kind>(slice: &mut [K], from: usize, to: usize)
     slice[to] = slice[from];
 }
 
-// Four places from one on take what stands in four from another on.
-// kept: `copy_within` speaks of a piece that is pasted, and what is promised here of single copies: it is no plainer.
-fn copy_four<K: Kind>(slice: &mut [K], from: usize, to: usize)
-    requires from { from + 4 ≤ length slice.old }
-    requires to { to + 4 ≤ length slice.old }
-    ensures { slice.new ≡ run_copied K.ZERO slice.old from to 4 }
-{
-    for i in 0..4 {
-        copy(slice, from + i, to + i);
-    }
-}
-
 impl<B: Book, K: Kind> Turn<'_, '_, B, K> {
     // The place of one of the task's registers.
     pub(crate) fn register(&self, register: Register) -> usize
@@ -48,27 +36,31 @@ impl<B: Book, K: Kind> Turn<'_, '_, B, K> {
     }
 
     // The task's registers are kept as its opening ones.
+    #[tactic(auto, using(crate::proofs::Copies::four_within))]
     pub(crate) fn keep_registers(&mut self)
         ensures { Lays self.old self.new (kept K.ZERO self.old.slice.now self.old.t) }
     {
-        copy_four(self.slice, REGISTERS + 4 * self.t, OPENINGS + 4 * self.t);
+        let from = REGISTERS + 4 * self.t;
+        self.slice
+            .copy_within(from..from + 4, OPENINGS + 4 * self.t);
     }
 
     // Its opening registers come back.
+    #[tactic(auto, using(crate::proofs::Copies::four_within))]
     pub(crate) fn take_registers_back(&mut self)
         ensures { Lays self.old self.new (taken_back K.ZERO self.old.slice.now self.old.t) }
     {
-        copy_four(self.slice, OPENINGS + 4 * self.t, REGISTERS + 4 * self.t);
+        let from = OPENINGS + 4 * self.t;
+        self.slice
+            .copy_within(from..from + 4, REGISTERS + 4 * self.t);
     }
 
     // Its registers become the kind's zero.
-    // kept: `fill` asks that a clone cannot fail, and `Kind` does not say so.
+    #[tactic(auto, using(crate::proofs::Copies::four_filled))]
     pub(crate) fn clear_registers(&mut self)
         ensures { Lays self.old self.new (cleared K.ZERO self.old.slice.now self.old.t) }
     {
         let first = REGISTERS + 4 * self.t;
-        for i in 0..4 {
-            self.slice[first + i] = K::ZERO;
-        }
+        self.slice[first..first + 4].copy_from_slice(&[K::ZERO; 4]);
     }
 }
