@@ -1,4 +1,5 @@
 // The laws of the strong machine and of its fragments, for every kind of value. The functions do nothing: what they promise is the law.
+// kept: `meaning_of` in each clause: a law holds of any zero, truth and outcomes, and asks for no forms, as the trait's own record would.
 ghost use Rattle.machine.specs.Effect.{meaning_of};
 ghost use Rattle.machine.specs.MachineLaws.{OneAtATime, Lasts, FaultsStop, Undisturbed};
 ghost use Rattle.machine.specs.FragmentLaws.{Frame, Embedding, Faithful, OwnSide, Determined, Whole, FaultMet};

@@ -1,4 +1,5 @@
 // The laws of the engine's moves, for every kind of value. The functions do nothing: what they promise is the law.
+// kept: `meaning_of` in each clause: a law holds of any zero, truth and outcomes, and asks for no forms, as the trait's own record would.
 ghost use Rattle.machine.specs.Effect.{meaning_of};
 ghost use Rattle.model.specs.Laws.{Kept, AtFirst, FaultInside, FaultOutside};
 
