@@ -5,6 +5,7 @@ pub mod Ends
 pub mod Reading
 pub mod Writing
 pub mod Output
+pub mod Filled
 pub mod Sheets
 pub mod Refusals
 pub mod Laws

@@ -6,6 +6,7 @@ ghost use Rattle.sheet.specs.Sheets.{Answers, content};
 
 use super::Sheet;
 use super::ends::{open_task, stray_target};
+use crate::filled::Filled;
 use crate::parts::{Cell, LineFault, Refusal};
 use program::{Mode, Program};
 use text::before;
@@ -22,10 +23,8 @@ impl<K: Kind> Sheet<K> {
             value: zero,
         };
         Sheet {
-            cells: [cell; 64],
-            cell_count: 0,
-            consts: [zero; 64],
-            const_count: 0,
+            cells: Filled::of([cell; 64], 0),
+            consts: Filled::of([zero; 64], 0),
             owed: [0; 16],
             program: Program::new(),
         }
@@ -35,7 +34,7 @@ impl<K: Kind> Sheet<K> {
     fn settle(&self) -> Result<(), Refusal>
         ensures { Answers result (settled (content self.now)) (content self.now) }
     {
-        let first = self.cell_count + self.const_count + 1;
+        let first = self.cells.len() + self.consts.len() + 1;
         if let Some(line) = open_task(&self.program, first) {
             return Err(Refusal::OpenTask { line });
         }
@@ -46,6 +45,7 @@ impl<K: Kind> Sheet<K> {
     }
 
     // Takes line after line, and looks at the whole after the last.
+    // kept: a loop over what is left, and no `split`: a last piece that no line feed ends is refused.
     fn take_text(text: &[u8]) -> Result<Sheet<K>, Refusal>
         ensures { MatchResult result (λ s. read_text K.Kind.reads text.now ≡ Ok (content s)) (λ e. read_text K.Kind.reads text.now ≡ Err e) }
     {

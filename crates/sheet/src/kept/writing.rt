@@ -49,16 +49,14 @@ impl<K: Kind> Sheet<K> {
     pub fn cells(&self) -> &[Cell<K>]
         ensures { result.now ≡ (content self.now).cells }
     {
-        let all = &self.cells[..];
-        &all[0..self.cell_count]
+        self.cells.as_slice()
     }
 
     // The constants, in order.
     pub fn consts(&self) -> &[K]
         ensures { result.now ≡ (content self.now).consts }
     {
-        let all = &self.consts[..];
-        &all[0..self.const_count]
+        self.consts.as_slice()
     }
 
     // Each value is one that a sheet may hold.
