@@ -1,5 +1,5 @@
 // Marks: a book that keeps the readers of each cell.
-ghost use Rattle.std.specs.Prelude.{◌≡◌, ℕ, ◌<◌, true, false, ◌||◌, if◌then◌else◌, nat_eq, slice_index_or};
+ghost use Rattle.std.specs.Prelude.{◌≡◌, ℕ, ◌<◌, true, false, ◌||◌, get_or, if◌then◌else◌, nat_eq, slice_index_or};
 ghost use Rattle.book.specs.Seen.{meets, rested};
 ghost use Rattle.book.specs.Marked.{reads, marked, always};
 
@@ -54,7 +54,7 @@ fn taint(stale: &mut [bool; 16], row: &[bool; 16])
 
 // Makes the readers of each of the cells stale.
 fn taint_all(stale: &mut [bool; 16], readers: &[[bool; 16]; 64], cells: &[bool; 64])
-    ensures { (u : ℕ) → slice_index_or stale.new u false ≡ (slice_index_or stale.old u false || meets (reads readers.now u) (λ c. slice_index_or cells.now c false)) }
+    ensures { (u : ℕ) → slice_index_or stale.new u false ≡ (slice_index_or stale.old u false || meets (reads readers.now u) (λ c. get_or cells.now c false)) }
 {
     for (row, &hit) in readers.iter().zip(cells) {
         if hit {
