@@ -40,9 +40,8 @@ impl<B: Book, K: Kind> Turn<'_, '_, B, K> {
     pub(crate) fn keep_registers(&mut self)
         ensures { Lays self.old self.new (kept K.ZERO self.old.slice.now self.old.t) }
     {
-        let from = REGISTERS + 4 * self.t;
-        self.slice
-            .copy_within(from..from + 4, OPENINGS + 4 * self.t);
+        let (first, kept) = (REGISTERS + 4 * self.t, OPENINGS + 4 * self.t);
+        self.slice.copy_within(first..first + 4, kept);
     }
 
     // Its opening registers come back.
@@ -50,9 +49,8 @@ impl<B: Book, K: Kind> Turn<'_, '_, B, K> {
     pub(crate) fn take_registers_back(&mut self)
         ensures { Lays self.old self.new (taken_back K.ZERO self.old.slice.now self.old.t) }
     {
-        let from = OPENINGS + 4 * self.t;
-        self.slice
-            .copy_within(from..from + 4, REGISTERS + 4 * self.t);
+        let (first, kept) = (REGISTERS + 4 * self.t, OPENINGS + 4 * self.t);
+        self.slice.copy_within(kept..kept + 4, first);
     }
 
     // Its registers become the kind's zero.
