@@ -1,7 +1,10 @@
 -- The element at each index of a list that is made, owned or laid. Assumes nothing.
 use Rattle.std.proofs.Common.{◌≡◌, ℕ, zero, suc, ◌+◌, ◌<◌, ◌≤◌, false, List, [], ◌∷◌, length, get_or, set, replicate, None, Option, sym, refl, ap, ◌∙◌, ⊎_elim, arith, length-set}
+use denote.Param.Members.{Mut, Called}
+use Rattle.std.specs.Array.{IsFromFnResult}
 use Rattle.std.proofs.lemmas.List.{get_or-set_same, get_or-set_other, get_or-replicate, get_or_append_left, get_or_push, length_push, length-replicate}
 use Rattle.std.proofs.lemmas.Bool.{cases_eq}
+use Rattle.book.proofs.Made.{made_list}
 use Rattle.board.specs.Boards.{mine}
 use Rattle.board.specs.Laying.{laid, tabulated}
 use Rattle.board.specs.Loops.{owned}
@@ -21,6 +24,11 @@ module _ {X : Type 0} (f : ℕ → X) (d : X) where
       (λ (e : k ≡ n). rw e (get_or_push (tabulated f n) (f n) d n long))
       (λ (e : k ≡ n → ⊥). let lt : k < n = omega arith in get_or_append_left (tabulated f n) (f n ∷ []) d k (omega arith) ∙ get_or-tabulated n k lt)
       (cases_eq k n)
+
+module _ {F B : Type 0} (g : Mut F (ℕ × Unit {0}) B) (f : F) (h : ℕ → B) (n : ℕ) (same : (i : ℕ) (y : B) (q : F) → i < n → Called g f (i, tt) y q → (q ≡ f) × (y ≡ h i)) (ys : List B) (d : B) where
+  -- an array that is made by a call at each index
+  pub made_tabulated : IsFromFnResult g f ys n → ys ≡ tabulated h n
+  made_tabulated made = made_list g f h n same ys d (tabulated h n) made (length-tabulated h d n) (get_or-tabulated h d n)
 
 module _ (t : ℕ) (os : List (Option ℕ)) where
   pub length-owned : (n : ℕ) → length (owned t os n) ≡ 64

@@ -129,30 +129,18 @@ impl TaskFault {
     }
 }
 
-fn on_station(number: u8, task: usize) -> Notice
-    ensures { result ≡ notice number 2 task 0 0 }
-{
-    Notice {
-        number,
-        layer: 2,
-        first: task,
-        second: 0,
-        cause: 0,
-    }
-}
-
 impl Refusal {
     // What the refusal tells people.
     pub fn told(self) -> Notice
         ensures { result ≡ notice_of self }
     {
         match self {
-            Refusal::ShortSlice { task } => on_station(1, task),
-            Refusal::NoSuchTask { task } => on_station(10, task),
-            Refusal::WrongState { task } => on_station(11, task),
-            Refusal::NoneOwed { task } => on_station(12, task),
+            Refusal::ShortSlice { task } => Notice::on_station(1, task),
+            Refusal::NoSuchTask { task } => Notice::on_station(10, task),
+            Refusal::WrongState { task } => Notice::on_station(11, task),
+            Refusal::NoneOwed { task } => Notice::on_station(12, task),
             Refusal::Task(fault) => fault.told(),
-            Refusal::NotIdle => on_station(25, 0),
+            Refusal::NotIdle => Notice::on_station(25, 0),
             Refusal::Sheet(refusal) => refusal.told(),
         }
     }

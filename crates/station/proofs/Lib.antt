@@ -1,5 +1,4 @@
 mod Sizes
-pub mod Made
 pub mod Writes
 pub mod Lookups
 pub mod Says

@@ -9,6 +9,6 @@ use Rattle.board.proofs.rows_of.Goals as goal
 pub returns : goal.returns
 returns c =
     let owed = c.args.owed.now in
-    made_list _ _ (λ t. idle_row (get_or owed t 0)) (λ i y q k. search rules) c.from_fn.result no_row 16 (laid idle_row 0 owed (replicate 16 (idle_row 0))) c.from_fn.ensures.items
+    made_list _ _ (λ t. idle_row (get_or owed t 0)) 16 (λ i y q less k. search rules) c.from_fn.result no_row (laid idle_row 0 owed (replicate 16 (idle_row 0))) c.from_fn.ensures.items
     (length-laid idle_row 0 no_row 0 owed (replicate 16 (idle_row 0)) ∙ length-replicate 16 (idle_row 0))
     (get_or-laid idle_row 0 no_row 16 owed)

@@ -7,6 +7,6 @@ use Rattle.board.proofs.Board.owned_by.Goals as goal
 
 pub returns : goal.returns
 returns c =
-    made_list _ _ (λ k. mine c.args.t (get_or c.args.self.now.owners k None)) (λ i y q k. search rules) c.from_fn.result false 64 (owned c.args.t c.args.self.now.owners 64) c.from_fn.ensures.items
+    made_list _ _ (λ k. mine c.args.t (get_or c.args.self.now.owners k None)) 64 (λ i y q less k. search rules) c.from_fn.result false (owned c.args.t c.args.self.now.owners 64) c.from_fn.ensures.items
     (length-owned c.args.t c.args.self.now.owners 64)
     (λ k h. get_or-owned c.args.t c.args.self.now.owners 64 k h (omega arith))

@@ -5,4 +5,4 @@ use Rattle.book.proofs.Flags.{none_past}
 use Rattle.book.proofs.worked.stale_flags.Goals as goal
 
 pub returns : goal.returns
-returns g c = made_all _ _ (λ t. stale_of t (g.B.Book.seen c.args.book.now)) (λ i y q k. search rules) c.from_fn.result false 16 c.from_fn.ensures.items (none_past (g.B.Book.seen c.args.book.now))
+returns g c = made_all _ _ (λ t. stale_of t (g.B.Book.seen c.args.book.now)) 16 (λ i y q less k. search rules) c.from_fn.result false c.from_fn.ensures.items (none_past (g.B.Book.seen c.args.book.now))

@@ -1,6 +1,6 @@
 use Rattle.std.proofs.Common.{◌++◌, drop, ap, ◌∙◌}
 use Rattle.board.specs.Laying.{blanked}
-use Rattle.station.proofs.Made.{blanked_is}
+use Rattle.board.proofs.Layings.{blanked_is}
 use Rattle.station.proofs.laying.blank.Goals as goal
 
 pub returns : goal.returns
