@@ -18,7 +18,8 @@ pub const CONSTANTS: usize = 256;
 
 pub const PLACES: usize = 320;
 
-// A place takes what stands at another.
+// A place takes what stands at another. (A function of its own for the loop in `restore`: an index there leaves the
+// loop's goal open.)
 pub(crate) fn copy<K: Kind>(slice: &mut [K], from: usize, to: usize)
     requires from { from < length slice.old }
     requires to { to < length slice.old }
