@@ -12,5 +12,5 @@ pub fn stations_keep_stands<K: Kind>()
     ensures calls { CallsKeep (meaning_of K.Kind) }
     ensures readings { ReadingsKeep K.Kind.ZERO K.Kind.reads }
 {
-    let _ = round_trips_stand::<K>();
+    round_trips_stand::<K>();
 }

@@ -9,7 +9,7 @@ use super::ends::{open_task, stray_target};
 use crate::filled::Filled;
 use crate::parts::{Cell, LineFault, Refusal};
 use program::{Mode, Program};
-use text::before;
+use text::split_once;
 use value::Kind;
 
 impl<K: Kind> Sheet<K> {
@@ -45,7 +45,6 @@ impl<K: Kind> Sheet<K> {
     }
 
     // Takes line after line, and looks at the whole after the last.
-    // kept: a loop over what is left, and no `split`: a last piece that no line feed ends is refused.
     fn take_text(text: &[u8]) -> Result<Sheet<K>, Refusal>
         ensures { MatchResult result (λ s. read_text K.Kind.reads text.now ≡ Ok (content s)) (λ e. read_text K.Kind.reads text.now ≡ Err e) }
     {
@@ -55,19 +54,18 @@ impl<K: Kind> Sheet<K> {
         let mut sheet = Sheet::<K>::new();
         let mut rest = text;
         let mut line = 1;
-        while !rest.is_empty() {
-            let n = before(b'\n', rest);
-            if n == rest.len() {
-                return Err(Refusal::Line {
-                    fault: LineFault::BadForm,
-                    line,
-                });
-            }
-            if let Err(fault) = sheet.take_line(&rest[0..n]) {
+        while let Some((first, after)) = split_once(b'\n', rest) {
+            if let Err(fault) = sheet.take_line(first) {
                 return Err(Refusal::Line { fault, line });
             }
-            rest = &rest[n + 1..];
+            rest = after;
             line += 1;
+        }
+        if !rest.is_empty() {
+            return Err(Refusal::Line {
+                fault: LineFault::BadForm,
+                line,
+            });
         }
         sheet.settle()?;
         Ok(sheet)
