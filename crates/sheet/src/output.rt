@@ -5,6 +5,7 @@ ghost use Rattle.sheet.specs.Output.{over};
 use text::Line;
 
 // Writes the line from `at` on, as far as the output goes, and gives the place behind the line.
+#[inline]
 pub(crate) fn put(out: &mut [u8], at: usize, line: &Line) -> usize
     requires { at ≤ 1000000 }
     ensures text { out.new ≡ over at (spelt line.now) out.old }

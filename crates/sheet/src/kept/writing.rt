@@ -15,6 +15,7 @@ use text::Line;
 use value::Kind;
 
 // Writes the line of each item from `at` on, as far as the output goes, and gives the place behind the last.
+#[inline]
 fn put_lines<T, F: Fn(&T) -> Line>(out: &mut [u8], at: usize, items: &[T], line_of: F) -> usize
     requires near { at ≤ 900000 }
     requires few { length items.now ≤ 1024 }
@@ -39,7 +40,7 @@ fn put_tasks(out: &mut [u8], at: usize, owed: &[u8; 16], program: &Program) -> u
     let tasks = program.tasks();
     for t in 0..tasks {
         end = put(out, end, &task_line(owed[t]));
-        end = put_lines(out, end, program.ops(t), |op| op_line_of(*op));
+        end = put_lines(out, end, program.ops(t), op_line_of);
     }
     end
 }
@@ -73,7 +74,7 @@ impl<K: Kind> Sheet<K> {
         ensures end { result ≡ length (written K.Kind.form (content self.now)) }
     {
         let cells = put_lines(out, 0, self.cells(), |c| c.line());
-        let consts = put_lines(out, cells, self.consts(), |v| const_line(*v));
+        let consts = put_lines(out, cells, self.consts(), const_line);
         put_tasks(out, consts, &self.owed, &self.program)
     }
 
