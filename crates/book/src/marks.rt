@@ -53,6 +53,7 @@ fn taint(stale: &mut [bool; 16], row: &[bool; 16])
 }
 
 // Makes the readers of each of the cells stale.
+// kept: a loop of its own beside that of counts, which goes over counts and tasks: a shared one would take two closures.
 fn taint_all(stale: &mut [bool; 16], readers: &[[bool; 16]; 64], cells: &[bool; 64])
     ensures { (u : ℕ) → slice_index_or stale.new u false ≡ (slice_index_or stale.old u false || meets (reads readers.now u) (λ c. get_or cells.now c false)) }
 {

@@ -1,4 +1,5 @@
 // The calls that name a task. A refused call changes nothing.
+// kept: five names, each one line over `call`: people make a call by its name.
 ghost use Rattle.machine.specs.Effect.{meaning_of};
 ghost use Rattle.engine.specs.World.{world_of, Does};
 ghost use Rattle.engine.specs.Calls.{called};
