@@ -8,7 +8,7 @@ use Rattle.value.specs.declared.codes.Fault.{Fault}
 use Rattle.value.specs.declared.codes.Fault.TheVariants.{Form}
 use Rattle.program.specs.declared.Op.{Op}
 use Rattle.sheet.specs.Content.{Content}
-use Rattle.sheet.specs.Lines.{where_some, all_numbers, lettered, op_line, line_fault, op_on, op_in}
+use Rattle.sheet.specs.Lines.{where_some, all_numbers, lettered, op_line, op_on, op_in}
 use Rattle.sheet.specs.Operations.{suits, operation}
 
 skip : {A : Type 0} (b : Bool) (x y z : A) → b ≡ false → y ≡ z → cond b x y ≡ z
@@ -60,8 +60,5 @@ module _ (cells consts : ℕ) (line inside : List ℕ) (is : framed (codes "(") 
   no_numbers t = opened ∙ crowd cells consts (get_or inside 0 0) (all_numbers (cut 32 (after inside))) t
 
 module _ {V : Type 0} (s : Content V) (line : List ℕ) (some : length s.code ≡ 0 → ⊥) where
-  pub op_refused : (f : Fault) → op_line (length s.cells) (length s.consts) line ≡ Err f → op_in s line ≡ Err (line_fault f)
-  op_refused f e = cond-false _ _ _ (ne_eqb (length s.code) 0 some) ∙ ap (op_on s) e
-
   pub op_accepted : (op : Op) → op_line (length s.cells) (length s.consts) line ≡ Ok op → op_in s line ≡ op_on s (Ok op)
   op_accepted op e = cond-false _ _ _ (ne_eqb (length s.code) 0 some) ∙ ap (op_on s) e

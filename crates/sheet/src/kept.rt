@@ -11,7 +11,7 @@ mod reading;
 mod writing;
 
 // A hand-over sheet: what people fill in to set a station up, and what a station is written back to.
-// Of `owed` as many are filled as the program has tasks.
+// kept: `owed` beside the program: as many places count as it has tasks.
 #[derive(Drop)]
 pub struct Sheet<K> {
     cells: Filled<Cell<K>, 64>,

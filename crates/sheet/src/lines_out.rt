@@ -12,10 +12,7 @@ use value::Kind;
 fn form_of<K: Kind>(value: K) -> Line
     ensures { spelt result ≡ unwrap_or (K.Kind.form value) [] }
 {
-    match value.spell() {
-        Some(form) => form,
-        None => Line::new(),
-    }
+    value.spell().unwrap_or_else(Line::new)
 }
 
 // Closes the bracket and the line.

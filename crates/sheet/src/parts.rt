@@ -40,6 +40,7 @@ impl From<Full> for LineFault {
 }
 
 // What a refusal tells: its number, the layer that it comes from, two places and a cause.
+// kept: numbers, since a notice is what is printed; what is refused and why are enums.
 #[derive(Clone, Copy)]
 pub struct Notice {
     pub number: u8,

@@ -30,6 +30,7 @@ fn is_closed(ops: &[Op]) -> bool
 }
 
 // The line of the first task that is empty or goes on past its end; the first task stands on line `first`.
+// kept: two loops with a running line, here and below: over a closure each would ask a bound of the line and be no plainer.
 pub(super) fn open_task(program: &Program, first: usize) -> Option<usize>
     requires { first ≤ 65536 }
     ensures { result ≡ first_open first (code program.now) }

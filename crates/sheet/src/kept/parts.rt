@@ -10,6 +10,7 @@ use value::Kind;
 
 impl<K: Kind> Sheet<K> {
     // The sheet with the first of these cells and constants, and with what each task of the program is owed.
+    // kept: arrays with their counts, as the station has them: a sheet alone keeps them together.
     pub fn of(
         cells: [Cell<K>; 64],
         cell_count: usize,
