@@ -31,15 +31,16 @@ fn put_lines<T, F: Fn(&T) -> Line>(out: &mut [u8], at: usize, items: &[T], line_
     end
 }
 
+// Writes each task's line, and then those of its operations.
 fn put_tasks(out: &mut [u8], at: usize, owed: &[u8; 16], program: &Program) -> usize
     requires { at ≤ 200000 }
     ensures text { out.new ≡ over at (tasks_text (take (length (code program.now)) owed.now) (code program.now)) out.old }
     ensures end { result ≡ at + length (tasks_text (take (length (code program.now)) owed.now) (code program.now)) }
 {
     let mut end = at;
-    let tasks = program.tasks();
-    for t in 0..tasks {
-        end = put(out, end, &task_line(owed[t]));
+    let given = &owed[..program.tasks()];
+    for (t, calls) in given.iter().enumerate() {
+        end = put(out, end, &task_line(*calls));
         end = put_lines(out, end, program.ops(t), op_line_of);
     }
     end
