@@ -67,6 +67,7 @@ impl<B: Book, K: Kind> Turn<'_, '_, B, K> {
 }
 
 impl<B: Book> Engine<B> {
+    // kept: the slice and the task come with each call: an engine holds no slice, and the turn is made once both are good.
     // One call: the slice is looked at first, then whether there is such a task, then its state.
     // A refused call changes nothing.
     pub fn call<K: Kind>(&mut self, slice: &mut [K], t: usize, event: Event) -> Result<(), Refusal>

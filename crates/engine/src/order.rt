@@ -1,4 +1,5 @@
 // Orders: operations whose arguments are known to be in bounds, so that no function has to ask it of them.
+// kept: a type beside `Op`, which is what a sheet writes, public and with arguments of any size.
 ghost use Rattle.std.specs.Prelude.{◌≡◌, ◌<◌, ◌≤◌, MatchOption};
 
 use program::Op;

@@ -29,7 +29,7 @@ fn combine_bearings(op: Operation, a: f32, b: f32) -> Result<Reading, Cause>
         _ if !(is_on_circle(a) && is_on_circle(b)) => Err(Cause::OutOfRange),
         Operation::Sum => Ok(Reading::Bearing(turn_on(a, b))),
         Operation::Difference => Ok(Reading::Bearing(turn_back(a, b))),
-        // the first of 0 and minus zero, between which `min` leaves the choice open
+        // kept: the first of 0 and minus zero, between which `min` leaves the choice open
         Operation::Smaller => Ok(Reading::Bearing(if a <= b { a } else { b })),
         Operation::Equal => Ok(Reading::Count(i32::from(a == b))),
         Operation::Less => Ok(Reading::Count(i32::from(a < b))),
@@ -68,6 +68,7 @@ impl Kind for Reading {
 
     ghost there = { λ v ts e. ReadingKindLemmas.there v ts (lone 101 ts) refl e };
 
+    // kept: a match and no test: each case has a truth of its own.
     fn is_true(self) -> bool {
         match self {
             Reading::Blank => false,

@@ -12,6 +12,7 @@ fn closes(op: Op) -> bool
 }
 
 // In a task of so many operations, the operation leads to a place or a task that is given.
+// kept: a match and no test: what is compared hangs on the operation.
 fn lands(op: Op, len: usize, tasks: usize) -> bool
     ensures { result ≡ landing len tasks op }
 {

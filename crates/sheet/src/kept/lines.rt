@@ -69,6 +69,7 @@ impl<K: Kind> Sheet<K> {
     }
 
     // Adds what the line says.
+    // kept: a test for each head: what stands after it goes to a function of its own.
     pub(super) fn take_line(&mut self, line: &[u8]) -> Result<(), LineFault>
         ensures { Answers result (judged K.Kind.reads (content self.old) line.now) (content self.new) }
     {
