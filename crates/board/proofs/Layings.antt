@@ -1,7 +1,8 @@
--- One element more that is laid, and one more that is made.
-use Rattle.std.proofs.Common.{◌≡◌, ℕ, zero, suc, ◌+◌, ◌<◌, ◌≤◌, List, [], ◌∷◌, ◌++◌, length, get_or, take, set, sym, refl, ap, ◌∙◌, add-zero, zero-add, add-one, arith}
-use Rattle.std.proofs.lemmas.List.{set_past, take_all, take_more_set}
-use Rattle.board.specs.Laying.{blanked, laid, tabulated}
+-- One element more that is laid, and places that are blanked.
+use Rattle.std.proofs.Common.{◌≡◌, ℕ, zero, suc, ◌+◌, ◌-◌, ◌<◌, ◌≤◌, List, [], ◌∷◌, ◌++◌, length, get_or, take, drop, set, replicate, sym, refl, ap, ◌∙◌, append_assoc, add-zero, add-one, arith}
+use Rattle.std.proofs.lemmas.List.{set_past, take_all, length-replicate, drop-set, drop-set-add, set-append_right}
+use Rattle.std.proofs.lemmas.Grind.{replicate_next}
+use Rattle.board.specs.Laying.{blanked, laid}
 
 module _ {X Y : Type 0} (f : X → Y) (d : X) where
   pub laid_more : (at i : ℕ) (xs : List X) (ys : List Y) → i < length xs → laid f at (take (i + 1) xs) ys ≡ set (laid f at (take i xs) ys) (at + i) (f (get_or xs i d))
@@ -20,9 +21,6 @@ module _ {X Y : Type 0} (f : X → Y) where
   laid_put at i xs ys zs x h is e =
       ap (λ l. set l (at + i) (f x)) e ∙ (ap (λ y. set (laid f at (take i xs) ys) (at + i) (f y)) is ∙ sym (laid_more f x at i xs ys h))
 
-  pub laid_put_first : (i : ℕ) (xs : List X) (ys zs : List Y) (x : X) → i < length xs → x ≡ get_or xs i x → zs ≡ laid f 0 (take i xs) ys → set zs i (f x) ≡ laid f 0 (take (i + 1) xs) ys
-  laid_put_first i xs ys zs x h is e = ap (λ n. set zs n (f x)) (sym (zero-add i)) ∙ laid_put 0 i xs ys zs x h is e
-
   -- after a turn whose place lies past the end
   pub laid_past : (at i : ℕ) (xs : List X) (ys zs : List Y) → i < length xs → length zs ≤ at + i → zs ≡ laid f at (take i xs) ys → zs ≡ laid f at (take (i + 1) xs) ys
   laid_past at i [] ys zs h past e = absurd (omega arith)
@@ -33,21 +31,14 @@ module _ {X Y : Type 0} (f : X → Y) where
   pub laid_all : (at i : ℕ) (xs : List X) (ys zs : List Y) → length xs ≤ i → zs ≡ laid f at (take i xs) ys → zs ≡ laid f at xs ys
   laid_all at i xs ys zs h e = e ∙ ap (λ l. laid f at l ys) (take_all i xs h)
 
-pub tabulated_none : {X : Type 0} (f : ℕ → X) → tabulated f 0 ≡ []
-unfolding tabulated
-tabulated_none f = refl
-
-pub tabulated_more : {X : Type 0} (f : ℕ → X) (xs : List X) (n : ℕ) → n < length xs → take n xs ≡ tabulated f n → take (n + 1) (set xs n (f n)) ≡ tabulated f (n + 1)
-unfolding tabulated
-tabulated_more f xs n h e = take_more_set xs n (f n) h ∙ (ap (λ l. l ++ (f n ∷ [])) e ∙ sym (ap (tabulated f) (add-one n)))
-
-pub tabulated_all : {X : Type 0} (f : ℕ → X) (xs : List X) (n i : ℕ) → length xs ≡ n → i ≡ n → take i xs ≡ tabulated f i → xs ≡ tabulated f n
-tabulated_all f xs n i full end e = sym (take_all i xs (omega arith)) ∙ (e ∙ ap (tabulated f) end)
-
-pub blanked_none : {X : Type 0} (v : X) (xs : List X) → blanked v xs 0 ≡ xs
+pub blanked_is : {X : Type 0} (v : X) (xs : List X) (n : ℕ) → n ≤ length xs → replicate n v ++ drop n xs ≡ blanked v xs n
 unfolding blanked
-blanked_none v xs = refl
-
-pub blanked_more : {X : Type 0} (v : X) (xs : List X) (n : ℕ) → blanked v xs (n + 1) ≡ set (blanked v xs n) n v
-unfolding blanked
-blanked_more v xs n = rw add-one refl
+blanked_is v xs zero h = refl
+blanked_is v xs (suc n) h =
+    let room : n < length xs = omega arith in
+    let first : set (drop n xs) 0 v ≡ v ∷ drop (suc n) xs = sym (drop-set-add n xs 0 v) ∙ (ap (λ i. drop n (set xs i v)) (add-zero n) ∙ (drop-set xs n v room ∙ ap (λ i. v ∷ drop i xs) (add-one n))) in
+    let joined : replicate (suc n) v ++ drop (suc n) xs ≡ replicate n v ++ (v ∷ drop (suc n) xs) =
+    ap (λ i. replicate i v ++ drop (suc n) xs) (sym (add-one n)) ∙ (ap (λ l. l ++ drop (suc n) xs) (replicate_next n v) ∙ append_assoc (replicate n v) (v ∷ []) (drop (suc n) xs)) in
+    let here : n - n ≡ 0 = omega arith in
+    joined ∙ (ap (λ l. replicate n v ++ l) (sym first) ∙ (ap (λ i. replicate n v ++ set (drop n xs) i v) (sym here)
+    ∙ (sym (set-append_right (replicate n v) (drop n xs) n n v (length-replicate n v) (omega arith)) ∙ ap (λ l. set l n v) (blanked_is v xs n (omega arith)))))

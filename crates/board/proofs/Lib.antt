@@ -1,3 +1,4 @@
 pub mod Turns
 pub mod Delivery
 pub mod Layings
+pub mod Places

@@ -1,7 +1,8 @@
 -- Each loop over cells or tasks, before its first turn and after one more.
-use Rattle.std.proofs.Common.{◌≡◌, ℕ, ◌+◌, false, List, replicate, Option, refl, add-one}
+use Rattle.std.proofs.Common.{◌≡◌, ℕ, ◌+◌, Bool, cond, List, get_or, set, None, Option, sym, refl, ap, ◌∙◌, add-one}
 use Rattle.board.specs.declared.Row.{Row}
-use Rattle.board.specs.Loops.{deliver_one, delivered, release_one, released, own_one, owned}
+use Rattle.board.specs.Boards.{mine}
+use Rattle.board.specs.Loops.{deliver_one, delivered, release_one, released}
 
 pub delivered_none : (ns : List ℕ) (rs : List Row) → delivered ns rs 0 ≡ rs
 unfolding delivered
@@ -19,10 +20,7 @@ pub released_more : (t : ℕ) (os : List (Option ℕ)) (n : ℕ) → released t 
 unfolding released
 released_more t os n = rw add-one refl
 
-pub owned_none : (t : ℕ) (os : List (Option ℕ)) → owned t os 0 ≡ replicate 64 false
-unfolding owned
-owned_none t os = refl
-
-pub owned_more : (t : ℕ) (os : List (Option ℕ)) (n : ℕ) → owned t os (n + 1) ≡ own_one t os (owned t os n) n
-unfolding owned
-owned_more t os n = rw add-one refl
+-- one turn more: b tells whether t owned the cell
+pub released_turn : (t : ℕ) (os now next : List (Option ℕ)) (n : ℕ) (b : Bool) → now ≡ released t os n → b ≡ mine t (get_or now n None) → next ≡ cond b (set now n None) now → next ≡ released t os (n + 1)
+released_turn t os now next n b before test after =
+    after ∙ ap (λ (x : Bool). cond x (set now n None) now) test ∙ ap (λ (l : List (Option ℕ)). release_one t l n) before ∙ sym (released_more t os n)

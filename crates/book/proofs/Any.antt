@@ -1,5 +1,10 @@
 -- Laws of `any`. Assumes nothing.
-use Rattle.std.proofs.Common.{◌≡◌, ℕ, zero, suc, ◌+◌, ◌<◌, Bool, true, false, ◌||◌, sym, refl, ap, ◌∙◌, ⊎_elim, add-one, arith}
+use Rattle.std.proofs.Common.{◌≡◌, ℕ, zero, suc, ◌+◌, ◌<◌, ◌≤◌, Bool, true, false, ◌||◌, List, length, get_or, take, sym, refl, ap, ◌∙◌, ⊎_elim, add-one, arith}
+use Rattle.std.specs.List.{list_any, zip}
+use Rattle.std.proofs.lemmas.List.{take_all}
+use Rattle.std.proofs.lemmas.List.Folds.{list_any_more}
+use Rattle.std.proofs.lemmas.Slice.Zip.{length-zip, get_or-zip}
+use Rattle.std.proofs.Math.Bool.{or_assoc, or_comm, or-false}
 use Rattle.std.proofs.lemmas.Bool.{cases_eq, or_left, or_right, or_from}
 use Rattle.book.specs.Seen.{any}
 
@@ -35,3 +40,34 @@ any_or f g (suc n) = swap (f n) (any f n) (g n) (any g n) ∙ ap (λ (b : Bool).
     swap false true true d = refl
     swap false true false d = refl
     swap false false c d = refl
+
+-- a fact that joins a test while places are gone through: at this turn x joined
+pub any_turn : (f : ℕ → Bool) (s a b x : Bool) (n m : ℕ) → m ≡ n + 1 → f n ≡ x → a ≡ (s || any f n) → b ≡ (a || x) → b ≡ (s || any f m)
+any_turn f s a b x n m next here before after = after ∙ ap (λ (y : Bool). y || x) before ∙ or_assoc s (any f n) x ∙ ap (λ (y : Bool). s || y) (or_comm (any f n) x ∙ ap (λ (y : Bool). y || any f n) (sym here) ∙ sym (any_more f n) ∙ ap (any f) (sym next))
+
+-- and at this turn nothing did
+pub any_pass : (f : ℕ → Bool) (s a : Bool) (n m : ℕ) → m ≡ n + 1 → f n ≡ false → a ≡ (s || any f n) → a ≡ (s || any f m)
+any_pass f s a n m next here before = any_turn f s a a false n m next here before (sym (or-false a))
+
+-- ---- the test of a list's elements
+
+any_same : (f g : ℕ → Bool) (n : ℕ) → ((k : ℕ) → k < n → f k ≡ g k) → any f n ≡ any g n
+unfolding any
+any_same f g zero h = refl
+any_same f g (suc n) h = let here : f n ≡ g n = h n (omega arith) in let rest : any f n ≡ any g n = any_same f g n (λ k lt. h k (omega arith)) in rw (here, rest)
+
+any_taken : {X : Type 0} (p : X → Bool) (xs : List X) (d : X) (n : ℕ) → n ≤ length xs → list_any p (take n xs) ≡ any (λ k. p (get_or xs k d)) n
+unfolding any
+any_taken p xs d zero h = refl
+any_taken p xs d (suc n) h =
+    let lt : n < length xs = omega arith in
+    let le : n ≤ length xs = omega arith in
+    ap (λ (m : ℕ). list_any p (take m xs)) (sym (add-one n)) ∙ list_any_more p xs n d lt ∙ ap (λ (b : Bool). b || p (get_or xs n d)) (any_taken p xs d n le) ∙ or_comm (any (λ k. p (get_or xs k d)) n) (p (get_or xs n d))
+
+pub any_listed : {X : Type 0} (p : X → Bool) (xs : List X) (d : X) (n : ℕ) → length xs ≡ n → list_any p xs ≡ any (λ k. p (get_or xs k d)) n
+any_listed p xs d n e = sym (ap (list_any p) (take_all n xs (omega arith))) ∙ any_taken p xs d n (omega arith)
+
+pub any_zipped : {X Y : Type 0} (p : X → Y → Bool) (xs : List X) (ys : List Y) (d : X) (e : Y) (n : ℕ) → length xs ≡ n → length ys ≡ n → list_any (λ (q : X × Y). p q.0 q.1) (zip xs ys) ≡ any (λ k. p (get_or xs k d) (get_or ys k e)) n
+any_zipped {X} {Y} p xs ys d e n h k =
+    any_listed (λ (q : X × Y). p q.0 q.1) (zip xs ys) (d, e) n (omega (arith, length-zip xs ys))
+    ∙ any_same _ _ n (λ i lt. ap (λ (q : X × Y). p q.0 q.1) (get_or-zip xs ys i (d, e) (omega arith) (omega arith)))

@@ -1,6 +1,6 @@
 pub mod Any
 pub mod Tables
+pub mod Made
 pub mod Changes
-pub mod Marking
 pub mod Counting
 pub mod Flags

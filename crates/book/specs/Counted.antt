@@ -1,6 +1,7 @@
 -- What counts mean.
-use Rattle.std.specs.Prelude.{ℕ, ◌+◌, ◌-◌, Bool, false, cond, not, ◌&&◌, ◌||◌, List, [], is_some, Some, None, Option, ◌==◌, nat_le, nat_lt, slice_index, slice_index_or}
+use Rattle.std.specs.Prelude.{ℕ, ◌+◌, ◌-◌, Bool, false, cond, not, ◌&&◌, ◌||◌, List, is_some, Some, None, Option, ◌==◌, nat_le, nat_lt, slice_index, slice_index_or}
 use Rattle.book.specs.Seen.{Seen, any}
+use Rattle.book.specs.Tasks.{task_at, first_note}
 use Rattle.book.specs.declared.counts.Counts.{Counts}
 
 -- a cell that was first noted at one count has another now
@@ -22,8 +23,8 @@ risen cells commits c = cond (slice_index_or cells c false && nat_lt (slice_inde
 
 abbrev pub counted : Counts → Seen
 counted m = record {
-  noted = λ t c. is_some (slice_index_or (slice_index_or m.first t []) c None);
-  stale = λ t. slice_index_or m.flag t false || outdated (slice_index_or m.first t []) m.commits;
+  noted = λ t c. is_some (first_note m.tasks t c);
+  stale = λ t. (task_at m.tasks t).flag || outdated (task_at m.tasks t).first m.commits;
 }
 
 -- each cell has 255 commits less those that it counted

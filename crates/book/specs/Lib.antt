@@ -1,3 +1,4 @@
 pub mod Seen
 pub mod Marked
+pub mod Tasks
 pub mod Counted

@@ -1,18 +1,19 @@
 // Counts: a book that counts the commits of each cell. What it does is in `calls`.
-ghost use Rattle.std.specs.Prelude.{◌≡◌, ℕ, ◌≤◌, [], Some, None, slice_index, slice_index_or};
+ghost use Rattle.std.specs.Prelude.{◌≡◌, ℕ, ◌≤◌, Some, slice_index};
+ghost use Rattle.book.specs.Tasks.{first_note};
 
 mod calls;
+mod tasks;
+
+use tasks::Task;
 
 // A task is stale if its flag is set, or if a cell that it noted has been committed since. A count
 // stays at 255, where the flag takes over.
 #[derive(Drop)]
 pub struct Counts {
-    // The task read a cell that another held, or a cell that it noted was committed with none left.
-    flag: [bool; 16],
+    tasks: [Task; 16],
     // How often the cell was committed since the book rested.
     commits: [u8; 64],
-    // The count of each cell that the task noted, when it first noted it.
-    first: [[Option<u8>; 64]; 16],
     // No first note is above the cell's count.
-    ghost ok: { (t c n : ℕ) → slice_index_or (slice_index_or first t []) c None ≡ Some n → n ≤ slice_index commits c },
+    ghost ok: { (t c n : ℕ) → first_note tasks t c ≡ Some n → n ≤ slice_index commits c },
 }

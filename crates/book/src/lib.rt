@@ -35,7 +35,10 @@ pub trait Book: Drop {
     // Task t gave up.
     fn forget(&mut self, t: usize)
         ensures notes { seen self.new ≡ begun t (seen self.old) }
-        ensures spare { left self.new ≡ left self.old };
+        ensures spare { left self.new ≡ left self.old }
+    {
+        self.begin(t)
+    }
 
     // Nobody is under way.
     fn rest(&mut self)

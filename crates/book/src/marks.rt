@@ -3,7 +3,8 @@ ghost use Rattle.std.specs.Prelude.{◌≡◌, ℕ, ◌<◌, true, false, ◌||�
 ghost use Rattle.book.specs.Seen.{meets, rested};
 ghost use Rattle.book.specs.Marked.{reads, marked, always};
 
-use super::Book;
+use crate::Book;
+use std::array;
 
 // A finish makes the readers of its cells stale at once, so nothing is ever counted.
 #[derive(Drop)]
@@ -31,8 +32,8 @@ fn strike(readers: &mut [[bool; 16]; 64], t: usize)
     requires { t < 16 }
     ensures { (u c : ℕ) → reads readers.new u c ≡ (if nat_eq u t then false else reads readers.old u c) }
 {
-    for c in 0..64 {
-        readers[c][t] = false;
+    for row in readers.iter_mut() {
+        row[t] = false;
     }
 }
 
@@ -48,18 +49,17 @@ fn enlist(row: &mut [bool; 16], t: usize)
 fn taint(stale: &mut [bool; 16], row: &[bool; 16])
     ensures { (u : ℕ) → slice_index_or stale.new u false ≡ (slice_index_or stale.old u false || slice_index_or row.now u false) }
 {
-    for u in 0..16 {
-        stale[u] = stale[u] | row[u];
-    }
+    *stale = array::from_fn(|u| stale[u] || row[u]);
 }
 
 // Makes the readers of each of the cells stale.
+// kept: a loop of its own beside that of counts, which goes over counts and tasks: a shared one would take two closures.
 fn taint_all(stale: &mut [bool; 16], readers: &[[bool; 16]; 64], cells: &[bool; 64])
     ensures { (u : ℕ) → slice_index_or stale.new u false ≡ (slice_index_or stale.old u false || meets (reads readers.now u) (λ c. get_or cells.now c false)) }
 {
-    for c in 0..64 {
-        if cells[c] {
-            taint(stale, &readers[c]);
+    for (row, &hit) in readers.iter().zip(cells) {
+        if hit {
+            taint(stale, row);
         }
     }
 }
@@ -69,6 +69,7 @@ impl Book for Marks {
 
     ghost left = { always };
 
+    // kept: `t < 16` and no `get_mut`: no clause says what an array holds after a write through it.
     fn begin(&mut self, t: usize) {
         if t < 16 {
             strike(&mut self.readers, t);
@@ -79,7 +80,7 @@ impl Book for Marks {
     fn note(&mut self, t: usize, c: usize, held: bool) {
         if t < 16 && c < 64 {
             enlist(&mut self.readers[c], t);
-            self.stale[t] = self.stale[t] | held;
+            self.stale[t] |= held;
         }
     }
 
@@ -90,17 +91,13 @@ impl Book for Marks {
         }
     }
 
-    fn forget(&mut self, t: usize) {
-        self.begin(t)
-    }
-
     fn rest(&mut self) {
         self.readers = [[false; 16]; 64];
         self.stale = [false; 16];
     }
 
     fn is_stale(&self, t: usize) -> bool {
-        t < 16 && self.stale[t]
+        self.stale.get(t).is_some_and(|&stale| stale)
     }
 
     fn left_of(&self, c: usize) -> u8 {

@@ -3,16 +3,13 @@ ghost use Rattle.std.specs.Prelude.{◌≡◌, ℕ, ◌<◌, ◌≤◌, false, �
 ghost use Rattle.book.specs.Seen.{stale_of, begun, noting, finished, rested};
 
 use crate::Book;
+use std::array;
 
 // The answer of `is_stale` for each task of a station.
 pub fn stale_flags<B: Book>(book: &B) -> [bool; 16]
     ensures { (t : ℕ) → slice_index_or result t false ≡ stale_of t (B.seen book.now) }
 {
-    let mut flags = [false; 16];
-    for t in 0..16 {
-        flags[t] = book.is_stale(t);
-    }
-    flags
+    array::from_fn(|t| book.is_stale(t))
 }
 
 // Task 2 notes cell 5, and task 3 finishes with cell 5: then task 2 is stale, and nobody else is.

@@ -31,9 +31,7 @@ fn books_agree(rt: HostRuntime) {
     for _ in 0..600 {
         let call = random.call();
         both(&rt, &mut marks, &mut counts, &call);
-        for t in 0..16 {
-            seen_stale = seen_stale | marks.is_stale(t);
-        }
+        seen_stale |= (0..16).any(|t| marks.is_stale(t));
     }
     assert!(rt; seen_stale);
 }
@@ -47,11 +45,11 @@ fn left_keeps_its_bounds(rt: HostRuntime) {
     for _ in 0..600 {
         let call = random.call();
         both(&rt, &mut marks, &mut counts, &call);
-        for c in 0..64 {
+        for (c, left) in left.iter_mut().enumerate() {
             assert_eq!(rt; marks.left_of(c), 255);
             let new = counts.left_of(c);
-            assert!(rt; within(left[c], new, spends(&call, c)));
-            left[c] = new;
+            assert!(rt; within(*left, new, spends(&call, c)));
+            *left = new;
         }
     }
 }

@@ -4,8 +4,6 @@
 ghost use Rattle.edges.specs.Edges.{EdgesStand};
 
 // The edge cases of arithmetic, of forms, of a book and of the engine come out as listed.
-pub fn edges_stand() -> u8
+pub fn edges_stand()
     ensures { EdgesStand }
-{
-    0
-}
+{}

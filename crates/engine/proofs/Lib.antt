@@ -1,1 +1,1 @@
-pub mod Restores
+pub mod Copies

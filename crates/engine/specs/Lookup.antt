@@ -1,5 +1,5 @@
 -- The operation at a task's place. A place past the end reads as Finish, and so does an operation with an argument that no station has.
-use Rattle.std.specs.Prelude.{ℕ, ◌<◌, cond, ◌&&◌, List, [], nat_lt, slice_index_or}
+use Rattle.std.specs.Prelude.{ℕ, cond, ◌&&◌, List, [], nat_lt, slice_index_or}
 use Rattle.program.specs.declared.Op.{Op}
 use Rattle.program.specs.declared.Op.TheVariants.{Finish, Read, Write, Constant, Apply, Jump, JumpIfFalse, Await, Start, Leave, Enter, Protect, Unprotect}
 
@@ -22,19 +22,3 @@ bounded (Unprotect cell) = cond (nat_lt cell 64) (Unprotect cell) Finish
 -- a task has 1,024 operations at most
 abbrev pub op_at : List (List Op) → ℕ → ℕ → Op
 op_at code t p = cond (nat_lt p 1024) (bounded (slice_index_or (slice_index_or code t []) p Finish)) Finish
-
--- what an operation at a place can rely on
-abbrev pub Bounded : ℕ → Op → Type 0
-Bounded p Finish = Unit {0}
-Bounded p (Read to cell) = (p < 1024) × (to < 4) × (cell < 64)
-Bounded p (Write cell from) = (p < 1024) × (from < 4) × (cell < 64)
-Bounded p (Constant to n) = (p < 1024) × (to < 4) × (n < 64)
-Bounded p (Apply operation to left right) = (p < 1024) × (to < 4) × (left < 4) × (right < 4)
-Bounded p (Jump target) = p < 1024
-Bounded p (JumpIfFalse test target) = (p < 1024) × (test < 4)
-Bounded p (Await test) = (p < 1024) × (test < 4)
-Bounded p (Start task) = (p < 1024) × (task < 16)
-Bounded p Leave = p < 1024
-Bounded p Enter = p < 1024
-Bounded p (Protect cell) = (p < 1024) × (cell < 64)
-Bounded p (Unprotect cell) = (p < 1024) × (cell < 64)

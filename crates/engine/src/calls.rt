@@ -1,119 +1,73 @@
 // The calls.
-ghost use Rattle.std.specs.Prelude.{◌≡◌, ◌<◌, ◌≤◌, length};
-ghost use Rattle.book.specs.Seen.{Lines};
 ghost use Rattle.machine.specs.Effect.{meaning_of};
-ghost use Rattle.engine.specs.World.{world_of, Does};
 ghost use Rattle.board.specs.Boards.{state_at};
-ghost use Rattle.engine.specs.Calls.{admits, opens, steps_in, steps_out, commits_in, meets, called};
+ghost use Rattle.engine.specs.World.{world_of, Does};
+ghost use Rattle.engine.specs.Turns.{Acts, left_in};
+ghost use Rattle.engine.specs.Calls.{admits, opens, meets, called};
 
-use crate::layout::{PLACES, clear_registers, keep_registers};
+use crate::layout::PLACES;
+use crate::turn::Turn;
 use crate::{Engine, Event};
-use board::{Row, TaskState};
+use board::TaskState;
 use book::Book;
-use faults::{Refusal, Side, placing};
+use faults::{Refusal, Side, StepFault, placing};
 use value::Kind;
 
-impl<B: Book> Engine<B> {
+impl<B: Book, K: Kind> Turn<'_, '_, B, K> {
     // An idle task that is owed a call is ready to begin.
-    fn admit_idle<K: Kind>(&mut self, slice: &mut [K], t: usize) -> Result<(), Refusal>
-        requires task { t < 16 }
-        requires long { 320 ≤ length slice.old }
-        ensures { Does B.Book self.old self.new slice.new result (admits (meaning_of K.Kind) (world_of B.Book self.old slice.old) t) }
+    fn admit_idle(&mut self) -> Result<(), Refusal>
+        ensures { Acts B.Book K.Kind self.old self.new result admits }
     {
-        let row = self.board.rows[t];
+        let row = &mut self.engine.board.rows[self.t];
         if row.owed == 0 {
-            return Err(Refusal::NoneOwed { task: t });
+            return Err(Refusal::NoneOwed { task: self.t });
         }
-        self.board.rows[t] = Row {
-            owed: row.owed - 1,
-            state: TaskState::Ready { place: 0 },
-            ..row
-        };
-        clear_registers(slice, t);
+        row.owed -= 1;
+        row.state = TaskState::Ready { place: 0 };
+        self.clear_registers();
         Ok(())
     }
 
     // A ready task's transaction opens; its place and registers are kept.
-    fn open_ready<K: Kind>(&mut self, slice: &mut [K], t: usize, place: u16) -> Result<(), Refusal>
-        requires task { t < 16 }
-        requires long { 320 ≤ length slice.old }
-        ensures { Does B.Book self.old self.new slice.new result (opens (meaning_of K.Kind) (world_of B.Book self.old slice.old) t place) }
+    fn open_ready(&mut self, place: u16) -> Result<(), Refusal>
+        ensures { Acts B.Book K.Kind self.old self.new result (λ k w t. opens k w t place) }
     {
-        let owed = self.board.rows[t].owed;
-        self.board.rows[t] = Row {
-            owed,
-            state: TaskState::Inside {
-                place,
-                opening: place,
-            },
-            own: [0; 16],
+        let row = &mut self.engine.board.rows[self.t];
+        row.state = TaskState::Inside {
+            place,
+            opening: place,
         };
-        keep_registers(slice, t);
-        self.book.begin(t);
-        Ok(())
-    }
-
-    // A transaction takes a step.
-    fn step_in<K: Kind>(
-        &mut self,
-        slice: &mut [K],
-        t: usize,
-        place: u16,
-        opening: u16,
-    ) -> Result<(), Refusal>
-        requires task { t < 16 }
-        requires long { 320 ≤ length slice.old }
-        ensures { Does B.Book self.old self.new slice.new result (steps_in (meaning_of K.Kind) (world_of B.Book self.old slice.old) t (B.Book.left self.old.book) place opening) }
-    {
-        let op = self.op_at(t, place);
-        let done = self.step_inside(slice, t, place, opening, op);
-        placing(done, t, place, Side::Inside)?;
-        Ok(())
-    }
-
-    // A driver takes a step.
-    fn step_out<K: Kind>(&mut self, slice: &mut [K], t: usize, place: u16) -> Result<(), Refusal>
-        requires task { t < 16 }
-        requires long { 320 ≤ length slice.old }
-        ensures { Does B.Book self.old self.new slice.new result (steps_out (meaning_of K.Kind) (world_of B.Book self.old slice.old) t place) }
-    {
-        let op = self.op_at(t, place);
-        let done = self.step_outside(slice, t, place, op);
-        placing(done, t, place, Side::Outside)?;
-        Ok(())
-    }
-
-    // A transaction commits.
-    fn commit_in<K: Kind>(&mut self, slice: &mut [K], t: usize, place: u16) -> Result<(), Refusal>
-        requires task { t < 16 }
-        requires long { 320 ≤ length slice.old }
-        ensures { Does B.Book self.old self.new slice.new result (commits_in (meaning_of K.Kind) (world_of B.Book self.old slice.old) t place) }
-    {
-        let op = self.op_at(t, place);
-        let done = self.commit_at(slice, t, place, op);
-        placing(done, t, place, Side::Inside)?;
+        row.own = [0; 16];
+        self.keep_registers();
+        self.engine.book.begin(self.t);
         Ok(())
     }
 
     // An event meets the state of its task.
-    fn meet<K: Kind>(&mut self, slice: &mut [K], t: usize, event: Event) -> Result<(), Refusal>
-        requires task { t < 16 }
-        requires long { 320 ≤ length slice.old }
-        ensures { Does B.Book self.old self.new slice.new result (meets (meaning_of K.Kind) (world_of B.Book self.old slice.old) t (B.Book.left self.old.book) (state_at self.old.board t) event) }
+    fn meet(&mut self, event: Event) -> Result<(), Refusal>
+        ensures { Acts B.Book K.Kind self.old self.new result (λ k w t. meets k w t (left_in B.Book self.old) (state_at w.board t) event) }
     {
-        match (self.board.rows[t].state, event) {
-            (TaskState::Idle, Event::Admit) => self.admit_idle(slice, t),
-            (TaskState::Ready { place }, Event::Open) => self.open_ready(slice, t, place),
-            (TaskState::Inside { place, opening }, Event::Step) => self.step_in(
-                slice, t, place, opening,
-            ),
-            (TaskState::Outside { place }, Event::Step) => self.step_out(slice, t, place),
-            (TaskState::Inside { place, .. }, Event::Commit) => self.commit_in(slice, t, place),
-            (TaskState::Inside { opening, .. }, Event::Undo) => self.undo_to(slice, t, opening),
+        let t = self.t;
+        match (self.engine.board.rows[t].state, event) {
+            (TaskState::Idle, Event::Admit) => self.admit_idle(),
+            (TaskState::Ready { place }, Event::Open) => self.open_ready(place),
+            (TaskState::Inside { place, opening }, Event::Step) => {
+                Ok(placing(self.step_inside(place, opening), t, place, Side::Inside)?)
+            }
+            (TaskState::Outside { place }, Event::Step) => {
+                Ok(placing(self.step_outside(place), t, place, Side::Outside)?)
+            }
+            (TaskState::Inside { place, .. }, Event::Commit) => {
+                Ok(placing(self.commit_at(place), t, place, Side::Inside)?)
+            }
+            (TaskState::Inside { opening, .. }, Event::Undo) => self.undo_to(opening),
             _ => Err(Refusal::WrongState { task: t }),
         }
     }
+}
 
+impl<B: Book> Engine<B> {
+    // kept: the slice and the task come with each call: an engine holds no slice, and the turn is made once both are good.
     // One call: the slice is looked at first, then whether there is such a task, then its state.
     // A refused call changes nothing.
     pub fn call<K: Kind>(&mut self, slice: &mut [K], t: usize, event: Event) -> Result<(), Refusal>
@@ -125,6 +79,11 @@ impl<B: Book> Engine<B> {
         if t >= self.program.tasks() {
             return Err(Refusal::NoSuchTask { task: t });
         }
-        self.meet(slice, t, event)
+        let mut turn = Turn {
+            engine: self,
+            slice,
+            t,
+        };
+        turn.meet(event)
     }
 }

@@ -1,20 +1,33 @@
 // How a transaction ends: it commits, or it is undone.
-ghost use Rattle.std.specs.Prelude.{◌≡◌, ◌<◌, ◌≤◌, length, if◌then◌else◌};
+ghost use Rattle.std.specs.Prelude.{◌≡◌, ◌≤◌, length, if◌then◌else◌};
 ghost use Rattle.book.specs.Seen.{Lines, same, full, rested, finished, spending};
-ghost use Rattle.machine.specs.Effect.{meaning_of};
-ghost use Rattle.engine.specs.World.{world_of, SameTable, Does};
+ghost use Rattle.engine.specs.World.{SameTable, settles};
 ghost use Rattle.board.specs.Loops.{busy};
-ghost use Rattle.engine.specs.Lookup.{Bounded};
+ghost use Rattle.engine.specs.Lookup.{op_at};
+ghost use Rattle.engine.specs.Restoring.{restored};
+ghost use Rattle.engine.specs.Turns.{Acts};
 ghost use Rattle.engine.specs.Calls.{own_cells, let_go, ends, commits, undoes};
 
 use crate::Engine;
-use crate::layout::take_registers_back;
-use crate::rows::{restore, set_state};
+use crate::layout::{SAVED, copy};
+use crate::order::Order;
+use crate::turn::Turn;
 use board::TaskState;
 use book::Book;
 use faults::{Refusal, StepFault};
-use program::Op;
 use value::Kind;
+
+// The cells that t owns take their saved values.
+fn restore<K: Kind>(owners: &[Option<u8>; 64], slice: &mut [K], t: usize)
+    requires { 128 ≤ length slice.old }
+    ensures { slice.new ≡ restored t K.ZERO owners.now slice.old 64 }
+{
+    for (c, owner) in owners.iter().enumerate() {
+        if owner.is_some_and(|u| u as usize == t) {
+            copy(slice, SAVED + c, c);
+        }
+    }
+}
 
 impl<B: Book> Engine<B> {
     // When the last transaction has ended, the book rests.
@@ -28,76 +41,57 @@ impl<B: Book> Engine<B> {
             self.book.rest();
         }
     }
+}
 
+impl<B: Book, K: Kind> Turn<'_, '_, B, K> {
     // The cells are released, the book finishes with them, and the task goes on as `next`.
-    fn close(&mut self, t: usize, next: TaskState)
-        requires { t < 16 }
-        ensures board { self.new.board ≡ let_go self.old.board t next }
-        ensures notes { B.Book.seen self.new.book ≡ (if busy (let_go self.old.board t next) then finished t (own_cells self.old.board t) (B.Book.seen self.old.book) else rested) }
-        ensures spare { Lines (if busy (let_go self.old.board t next) then spending t (own_cells self.old.board t) else full) (B.Book.left self.old.book) (B.Book.left self.new.book) }
-        ensures table { SameTable self.old self.new }
+    fn close(&mut self, next: TaskState) -> Result<(), StepFault>
+        ensures { Acts B.Book K.Kind self.old self.new result (λ k w t. settles w (let_go w.board t next) w.slice (finished t (own_cells w.board t) w.seen) (spending t (own_cells w.board t))) }
     {
-        let cells = self.board.owned_by(t);
-        self.board.release(t);
-        set_state(&mut self.board, t, next);
-        self.book.finish(t, &cells);
-        self.settle();
-    }
-
-    // A transaction that came to its end, if it is not stale and its calls can be delivered.
-    fn end<K: Kind>(&mut self, slice: &mut [K], t: usize, next: TaskState) -> Result<(), StepFault>
-        requires task { t < 16 }
-        requires long { 320 ≤ length slice.old }
-        ensures { Does B.Book self.old self.new slice.new result (ends (meaning_of K.Kind) (world_of B.Book self.old slice.old) t next) }
-    {
-        if self.book.is_stale(t) {
-            return Err(StepFault::Stale);
-        }
-        let own = self.board.rows[t].own;
-        if !self.board.deliver(&own) {
-            return Err(StepFault::TooManyOwed);
-        }
-        self.close(t, next);
+        let cells = self.engine.board.owned_by(self.t);
+        self.engine.board.release(self.t);
+        self.engine.board.rows[self.t].state = next;
+        self.engine.book.finish(self.t, &cells);
+        self.engine.settle();
         Ok(())
     }
 
-    // A transaction commits at a leave or a finish.
-    pub(crate) fn commit_at<K: Kind>(
-        &mut self,
-        slice: &mut [K],
-        t: usize,
-        place: u16,
-        op: Op,
-    ) -> Result<(), StepFault>
-        requires task { t < 16 }
-        requires long { 320 ≤ length slice.old }
-        requires fits { Bounded place op }
-        ensures { Does B.Book self.old self.new slice.new result (commits (meaning_of K.Kind) (world_of B.Book self.old slice.old) t place op) }
+    // A transaction that came to its end, if it is not stale and its calls can be delivered.
+    fn end(&mut self, next: TaskState) -> Result<(), StepFault>
+        ensures { Acts B.Book K.Kind self.old self.new result (λ k w t. ends k w t next) }
     {
-        match op {
-            Op::Leave => self.end(slice, t, TaskState::Outside { place: place + 1 }),
-            Op::Finish => self.end(slice, t, TaskState::Idle),
+        if self.engine.book.is_stale(self.t) {
+            return Err(StepFault::Stale);
+        }
+        let own = self.engine.board.rows[self.t].own;
+        self.engine
+            .board
+            .deliver(&own)
+            .map_err(|_| StepFault::TooManyOwed)?;
+        self.close(next)
+    }
+
+    // A transaction commits at a leave or a finish.
+    pub(crate) fn commit_at(&mut self, place: u16) -> Result<(), StepFault>
+        ensures { Acts B.Book K.Kind self.old self.new result (λ k w t. commits k w t place (op_at w.code t place)) }
+    {
+        match self.order_at(place) {
+            Order::Leave => self.end(TaskState::Outside { place: place + 1 }),
+            Order::Finish => self.end(TaskState::Idle),
             _ => Err(StepFault::NotAtEnd),
         }
     }
 
     // Owned cells and registers come back, and the task is ready where its transaction opened.
-    pub(crate) fn undo_to<K: Kind>(
-        &mut self,
-        slice: &mut [K],
-        t: usize,
-        opening: u16,
-    ) -> Result<(), Refusal>
-        requires task { t < 16 }
-        requires long { 320 ≤ length slice.old }
-        ensures { Does B.Book self.old self.new slice.new result (undoes (meaning_of K.Kind) (world_of B.Book self.old slice.old) t opening) }
+    pub(crate) fn undo_to(&mut self, opening: u16) -> Result<(), Refusal>
+        ensures { Acts B.Book K.Kind self.old self.new result (λ k w t. undoes k w t opening) }
     {
-        restore(&self.board, slice, t);
-        self.board.release(t);
-        take_registers_back(slice, t);
-        set_state(&mut self.board, t, TaskState::Ready { place: opening });
-        self.book.forget(t);
-        self.settle();
+        restore(&self.engine.board.owners, self.slice, self.t);
+        self.engine.board.release(self.t);
+        self.take_registers_back();
+        self.engine.board.rows[self.t].state = TaskState::Ready { place: opening };
+        self.engine.book.forget(self.t);
+        self.engine.settle();
         Ok(())
     }
 }

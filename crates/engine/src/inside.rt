@@ -1,189 +1,91 @@
 // One step of a transaction.
-ghost use Rattle.std.specs.Prelude.{◌≡◌, ◌<◌, ◌≤◌, length};
-ghost use Rattle.book.specs.Seen.{Lines};
-ghost use Rattle.machine.specs.Effect.{meaning_of};
-ghost use Rattle.engine.specs.World.{world_of, Does};
-ghost use Rattle.engine.specs.Lookup.{Bounded};
+ghost use Rattle.engine.specs.Lookup.{op_at};
+ghost use Rattle.engine.specs.Turns.{Acts, left_in};
 ghost use Rattle.engine.specs.Operations.{reads_inside, acquires, writes_inside, starts_inside, step_inside};
 
-use crate::Engine;
-use crate::layout::{CONSTANTS, SAVED, copy, register};
-use crate::rows::{inside_at, set_state};
-use board::{Row, TaskState};
+use crate::layout::{CONSTANTS, SAVED};
+use crate::order::{Cell, Order, Register, Task};
+use crate::turn::Turn;
+use board::TaskState;
 use book::Book;
 use faults::StepFault;
-use program::{Mode, Op};
+use program::Mode;
 use value::Kind;
 
-impl<B: Book> Engine<B> {
+impl<B: Book, K: Kind> Turn<'_, '_, B, K> {
     // A register takes a cell. Every read is noted, also of a cell that the transaction owns.
-    pub(crate) fn read_inside<K: Kind>(
-        &mut self,
-        slice: &mut [K],
-        t: usize,
-        to: u8,
-        cell: u8,
-        next: TaskState,
-    ) -> Result<(), StepFault>
-        requires task { t < 16 }
-        requires long { 320 ≤ length slice.old }
-        requires register { to < 4 }
-        requires cell { cell < 64 }
-        ensures { Does B.Book self.old self.new slice.new result (reads_inside (meaning_of K.Kind) (world_of B.Book self.old slice.old) t to cell next) }
+    fn read_inside(&mut self, to: Register, cell: Cell, next: TaskState) -> Result<(), StepFault>
+        ensures { Acts B.Book K.Kind self.old self.new result (λ k w t. reads_inside k w t to.index cell.index next) }
     {
-        let c = cell as usize;
-        let held = match self.board.owners[c] {
-            Some(u) => u as usize != t,
-            None => false,
-        };
-        self.book.note(t, c, held);
-        copy(slice, c, register(t, to));
-        set_state(&mut self.board, t, next);
-        Ok(())
+        let c = cell.index;
+        let held = self.engine.board.owners[c].is_some_and(|u| u as usize != self.t);
+        self.engine.book.note(self.t, c, held);
+        self.fetch(to, c, next)
     }
 
     // A cell that nobody owns is saved, owned and written.
-    pub(crate) fn acquire<K: Kind>(
-        &mut self,
-        slice: &mut [K],
-        t: usize,
-        cell: u8,
-        from: u8,
-        next: TaskState,
-    ) -> Result<(), StepFault>
-        requires task { t < 16 }
-        requires long { 320 ≤ length slice.old }
-        requires cell { cell < 64 }
-        requires register { from < 4 }
-        ensures { Does B.Book self.old self.new slice.new result (acquires (meaning_of K.Kind) (world_of B.Book self.old slice.old) t cell from next) }
+    fn acquire(&mut self, cell: Cell, from: Register, next: TaskState) -> Result<(), StepFault>
+        ensures { Acts B.Book K.Kind self.old self.new result (λ k w t. acquires k w t cell.index from.index next) }
     {
-        let c = cell as usize;
-        copy(slice, c, SAVED + c);
-        copy(slice, register(t, from), c);
-        self.board.owners[c] = Some(t as u8);
-        set_state(&mut self.board, t, next);
-        Ok(())
+        let c = cell.index;
+        self.slice[SAVED + c] = self.slice[c];
+        self.engine.board.owners[c] = Some(self.t as u8);
+        self.put(cell, from, next)
     }
 
     // A cell takes a register, if the transaction owns the cell or may come to own it.
-    pub(crate) fn write_inside<K: Kind>(
-        &mut self,
-        slice: &mut [K],
-        t: usize,
-        cell: u8,
-        from: u8,
-        next: TaskState,
-    ) -> Result<(), StepFault>
-        requires task { t < 16 }
-        requires long { 320 ≤ length slice.old }
-        requires cell { cell < 64 }
-        requires register { from < 4 }
-        ensures { Does B.Book self.old self.new slice.new result (writes_inside (meaning_of K.Kind) (world_of B.Book self.old slice.old) t (B.Book.left self.old.book) cell from next) }
+    fn write_inside(&mut self, cell: Cell, from: Register, next: TaskState) -> Result<(), StepFault>
+        ensures { Acts B.Book K.Kind self.old self.new result (λ k w t. writes_inside k w t (left_in B.Book self.old) cell.index from.index next) }
     {
-        let c = cell as usize;
-        match (self.board.owners[c], self.board.modes[c]) {
-            (Some(u), _) => {
-                if u as usize != t {
-                    return Err(StepFault::Owned);
-                }
-                self.put(slice, t, cell, from, next)
-            }
+        let c = cell.index;
+        match (self.engine.board.owners[c], self.engine.board.modes[c]) {
+            (Some(u), _) if u as usize == self.t => self.put(cell, from, next),
+            (Some(_), _) => Err(StepFault::Owned),
             (None, Mode::Unprotected) => Err(StepFault::Unprotected),
-            (None, Mode::Protected) => {
-                if self.book.left_of(c) == 0 {
-                    return Err(StepFault::NoneLeft);
-                }
-                self.acquire(slice, t, cell, from, next)
-            }
+            (None, Mode::Protected) if self.engine.book.left_of(c) == 0 => Err(StepFault::NoneLeft),
+            (None, Mode::Protected) => self.acquire(cell, from, next),
         }
     }
 
     // The transaction counts one more call of a task; none is delivered before it commits.
-    pub(crate) fn start_inside<K: Kind>(
-        &mut self,
-        slice: &mut [K],
-        t: usize,
-        task: u8,
-        next: TaskState,
-    ) -> Result<(), StepFault>
-        requires task { t < 16 }
-        requires long { 320 ≤ length slice.old }
-        requires started { task < 16 }
-        ensures { Does B.Book self.old self.new slice.new result (starts_inside (meaning_of K.Kind) (world_of B.Book self.old slice.old) t task next) }
+    fn start_inside(&mut self, task: Task, next: TaskState) -> Result<(), StepFault>
+        ensures { Acts B.Book K.Kind self.old self.new result (λ k w t. starts_inside k w t task.index next) }
     {
-        let u = task as usize;
-        let mut own = self.board.rows[t].own;
-        if own[u] >= 255 {
+        let row = &mut self.engine.board.rows[self.t];
+        let u = task.index;
+        if row.own[u] == 255 {
             return Err(StepFault::TooManyOwed);
         }
-        own[u] += 1;
-        let owed = self.board.rows[t].owed;
-        self.board.rows[t] = Row {
-            owed,
-            state: next,
-            own,
-        };
+        row.own[u] += 1;
+        row.state = next;
         Ok(())
     }
 
     // One step of a transaction that opened at a place.
-    pub(crate) fn step_inside<K: Kind>(
-        &mut self,
-        slice: &mut [K],
-        t: usize,
-        place: u16,
-        opening: u16,
-        op: Op,
-    ) -> Result<(), StepFault>
-        requires task { t < 16 }
-        requires long { 320 ≤ length slice.old }
-        requires fits { Bounded place op }
-        ensures { Does B.Book self.old self.new slice.new result (step_inside (meaning_of K.Kind) (world_of B.Book self.old slice.old) t (B.Book.left self.old.book) place opening op) }
+    pub(crate) fn step_inside(&mut self, place: u16, opening: u16) -> Result<(), StepFault>
+        ensures { Acts B.Book K.Kind self.old self.new result (λ k w t. step_inside k w t (left_in B.Book self.old) place opening (op_at w.code t place)) }
     {
-        match op {
-            Op::Read { to, cell } => {
-                self.read_inside(slice, t, to, cell, inside_at(place + 1, opening))
+        let at = |place| TaskState::Inside { place, opening };
+        match self.order_at(place) {
+            Order::Read { to, cell } => self.read_inside(to, cell, at(place + 1)),
+            Order::Write { cell, from } => self.write_inside(cell, from, at(place + 1)),
+            Order::Constant { to, constant } => {
+                self.fetch(to, CONSTANTS + constant.index, at(place + 1))
             }
-            Op::Write { cell, from } => {
-                self.write_inside(slice, t, cell, from, inside_at(place + 1, opening))
-            }
-            Op::Constant { to, constant } => {
-                self.fetch(
-                    slice,
-                    t,
-                    to,
-                    CONSTANTS + constant as usize,
-                    inside_at(place + 1, opening),
-                )
-            }
-            Op::Apply {
+            Order::Apply {
                 operation,
                 to,
                 left,
                 right,
-            } => self.apply(
-                slice,
-                t,
-                operation,
-                to,
-                left,
-                right,
-                inside_at(place + 1, opening),
+            } => self.apply(operation, to, left, right, at(place + 1)),
+            Order::Jump { target } => self.go(at(target)),
+            Order::JumpIfFalse { test, target } => self.branch(test, at(place + 1), at(target)),
+            Order::Await { test } => self.wait(test, at(place + 1)),
+            Order::Start { task } => self.start_inside(task, at(place + 1)),
+            Order::Finish | Order::Leave => Err(StepFault::AtEnd),
+            Order::Enter | Order::Protect { .. } | Order::Unprotect { .. } => Err(
+                StepFault::WrongSide,
             ),
-            Op::Jump { target } => self.go(slice, t, inside_at(target, opening)),
-            Op::JumpIfFalse { test, target } => {
-                self.branch(
-                    slice,
-                    t,
-                    test,
-                    inside_at(place + 1, opening),
-                    inside_at(target, opening),
-                )
-            }
-            Op::Await { test } => self.wait(slice, t, test, inside_at(place + 1, opening)),
-            Op::Start { task } => self.start_inside(slice, t, task, inside_at(place + 1, opening)),
-            Op::Finish | Op::Leave => Err(StepFault::AtEnd),
-            Op::Enter | Op::Protect { .. } | Op::Unprotect { .. } => Err(StepFault::WrongSide),
         }
     }
 }

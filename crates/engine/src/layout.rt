@@ -1,6 +1,10 @@
-ghost use Rattle.std.specs.Prelude.{◌≡◌, ◌<◌, ◌≤◌, length};
-ghost use Rattle.engine.specs.Layout.{register_place, opening_place, copied, kept, taken_back, cleared};
+ghost use Rattle.std.specs.Prelude.{◌≡◌, ◌+◌, ◌<◌, ◌≤◌, length};
+ghost use Rattle.engine.specs.Layout.{register_place, copied, kept, taken_back, cleared};
+ghost use Rattle.engine.specs.Turns.{Lays};
 
+use crate::order::Register;
+use crate::turn::Turn;
+use book::Book;
 use value::Kind;
 
 // The working slice: where each part begins, and how many places there are. Cells begin at 0.
@@ -14,65 +18,48 @@ pub const CONSTANTS: usize = 256;
 
 pub const PLACES: usize = 320;
 
-// The place of register i of task t.
-pub(crate) fn register(t: usize, i: u8) -> usize
-    requires task { t < 16 }
-    requires number { i < 4 }
-    ensures { result ≡ register_place t i }
-{
-    REGISTERS + 4 * t + i as usize
-}
-
-// The place that keeps register i of task t as its transaction opened.
-pub(crate) fn opening_register(t: usize, i: u8) -> usize
-    requires task { t < 16 }
-    requires number { i < 4 }
-    ensures { result ≡ opening_place t i }
-{
-    OPENINGS + 4 * t + i as usize
-}
-
+// A place takes what stands at another. (A function of its own for the loop in `restore`: an index there leaves the
+// loop's goal open.)
 pub(crate) fn copy<K: Kind>(slice: &mut [K], from: usize, to: usize)
-    requires from_in { from < length slice.old }
-    requires to_in { to < length slice.old }
+    requires from { from < length slice.old }
+    requires to { to < length slice.old }
     ensures { slice.new ≡ copied K.ZERO slice.old from to }
 {
     slice[to] = slice[from];
 }
 
-// The registers of task t are kept as its opening ones.
-pub(crate) fn keep_registers<K: Kind>(slice: &mut [K], t: usize)
-    requires task { t < 16 }
-    requires long { 320 ≤ length slice.old }
-    ensures { slice.new ≡ kept K.ZERO slice.old t }
-{
-    copy(slice, register(t, 0), opening_register(t, 0));
-    copy(slice, register(t, 1), opening_register(t, 1));
-    copy(slice, register(t, 2), opening_register(t, 2));
-    copy(slice, register(t, 3), opening_register(t, 3));
-}
+impl<B: Book, K: Kind> Turn<'_, '_, B, K> {
+    // The place of one of the task's registers.
+    pub(crate) fn register(&self, register: Register) -> usize
+        ensures { result ≡ register_place self.now.t register.index }
+    {
+        REGISTERS + 4 * self.t + register.index
+    }
 
-// The opening registers of task t come back.
-pub(crate) fn take_registers_back<K: Kind>(slice: &mut [K], t: usize)
-    requires task { t < 16 }
-    requires long { 320 ≤ length slice.old }
-    ensures { slice.new ≡ taken_back K.ZERO slice.old t }
-{
-    copy(slice, opening_register(t, 0), register(t, 0));
-    copy(slice, opening_register(t, 1), register(t, 1));
-    copy(slice, opening_register(t, 2), register(t, 2));
-    copy(slice, opening_register(t, 3), register(t, 3));
-}
+    // The task's registers are kept as its opening ones.
+    #[tactic(auto, using(crate::proofs::Copies::four_within))]
+    pub(crate) fn keep_registers(&mut self)
+        ensures { Lays self.old self.new (kept K.ZERO self.old.slice.now self.old.t) }
+    {
+        let (first, kept) = (REGISTERS + 4 * self.t, OPENINGS + 4 * self.t);
+        self.slice.copy_within(first..first + 4, kept);
+    }
 
-// The registers of task t become the kind's zero.
-pub(crate) fn clear_registers<K: Kind>(slice: &mut [K], t: usize)
-    requires task { t < 16 }
-    requires long { 320 ≤ length slice.old }
-    ensures { slice.new ≡ cleared K.ZERO slice.old t }
-{
-    let zero = K::ZERO;
-    slice[register(t, 0)] = zero;
-    slice[register(t, 1)] = zero;
-    slice[register(t, 2)] = zero;
-    slice[register(t, 3)] = zero;
+    // Its opening registers come back.
+    #[tactic(auto, using(crate::proofs::Copies::four_within))]
+    pub(crate) fn take_registers_back(&mut self)
+        ensures { Lays self.old self.new (taken_back K.ZERO self.old.slice.now self.old.t) }
+    {
+        let (first, kept) = (REGISTERS + 4 * self.t, OPENINGS + 4 * self.t);
+        self.slice.copy_within(kept..kept + 4, first);
+    }
+
+    // Its registers become the kind's zero.
+    #[tactic(auto, using(crate::proofs::Copies::four_filled))]
+    pub(crate) fn clear_registers(&mut self)
+        ensures { Lays self.old self.new (cleared K.ZERO self.old.slice.now self.old.t) }
+    {
+        let first = REGISTERS + 4 * self.t;
+        self.slice[first..first + 4].copy_from_slice(&[K::ZERO; 4]);
+    }
 }

@@ -9,9 +9,9 @@ mod calls;
 mod ends;
 mod inside;
 mod layout;
-mod lookup;
+mod order;
 mod outside;
-mod rows;
+mod turn;
 
 pub use layout::{CONSTANTS, PLACES};
 

@@ -1,128 +1,74 @@
 // One step of a driver.
-ghost use Rattle.std.specs.Prelude.{◌≡◌, ◌<◌, ◌≤◌, length};
-ghost use Rattle.book.specs.Seen.{Lines};
-ghost use Rattle.machine.specs.Effect.{meaning_of};
-ghost use Rattle.engine.specs.World.{world_of, Does};
-ghost use Rattle.engine.specs.Lookup.{Bounded};
+ghost use Rattle.engine.specs.Lookup.{op_at};
+ghost use Rattle.engine.specs.Turns.{Acts};
 ghost use Rattle.engine.specs.Operations.{starts_outside, sets_mode, unprotects, step_outside};
 
-use crate::Engine;
 use crate::layout::CONSTANTS;
-use crate::rows::{outside_at, set_owed, set_state};
+use crate::order::{Cell, Order, Task};
+use crate::turn::Turn;
 use board::TaskState;
 use book::Book;
 use faults::StepFault;
-use program::{Mode, Op};
+use program::Mode;
 use value::Kind;
 
-impl<B: Book> Engine<B> {
+impl<B: Book, K: Kind> Turn<'_, '_, B, K> {
     // A task is owed one call more.
-    pub(crate) fn start_outside<K: Kind>(
-        &mut self,
-        slice: &mut [K],
-        t: usize,
-        task: u8,
-        next: TaskState,
-    ) -> Result<(), StepFault>
-        requires task { t < 16 }
-        requires long { 320 ≤ length slice.old }
-        requires started { task < 16 }
-        ensures { Does B.Book self.old self.new slice.new result (starts_outside (meaning_of K.Kind) (world_of B.Book self.old slice.old) t task next) }
+    fn start_outside(&mut self, task: Task, next: TaskState) -> Result<(), StepFault>
+        ensures { Acts B.Book K.Kind self.old self.new result (λ k w t. starts_outside k w t task.index next) }
     {
-        let u = task as usize;
-        let owed = self.board.rows[u].owed;
-        if owed >= 255 {
+        let row = &mut self.engine.board.rows[task.index];
+        if row.owed == 255 {
             return Err(StepFault::TooManyOwed);
         }
-        set_owed(&mut self.board, u, owed + 1);
-        set_state(&mut self.board, t, next);
-        Ok(())
+        row.owed += 1;
+        self.go(next)
     }
 
     // A cell changes its side.
-    pub(crate) fn set_mode<K: Kind>(
-        &mut self,
-        slice: &mut [K],
-        t: usize,
-        cell: u8,
-        mode: Mode,
-        next: TaskState,
-    ) -> Result<(), StepFault>
-        requires task { t < 16 }
-        requires long { 320 ≤ length slice.old }
-        requires cell { cell < 64 }
-        ensures { Does B.Book self.old self.new slice.new result (sets_mode (meaning_of K.Kind) (world_of B.Book self.old slice.old) t cell mode next) }
+    fn set_mode(&mut self, cell: Cell, mode: Mode, next: TaskState) -> Result<(), StepFault>
+        ensures { Acts B.Book K.Kind self.old self.new result (λ k w t. sets_mode k w t cell.index mode next) }
     {
-        self.board.modes[cell as usize] = mode;
-        set_state(&mut self.board, t, next);
-        Ok(())
+        self.engine.board.modes[cell.index] = mode;
+        self.go(next)
     }
 
     // A cell becomes unprotected, unless a transaction owns it.
-    pub(crate) fn unprotect<K: Kind>(
-        &mut self,
-        slice: &mut [K],
-        t: usize,
-        cell: u8,
-        next: TaskState,
-    ) -> Result<(), StepFault>
-        requires task { t < 16 }
-        requires long { 320 ≤ length slice.old }
-        requires cell { cell < 64 }
-        ensures { Does B.Book self.old self.new slice.new result (unprotects (meaning_of K.Kind) (world_of B.Book self.old slice.old) t cell next) }
+    fn unprotect(&mut self, cell: Cell, next: TaskState) -> Result<(), StepFault>
+        ensures { Acts B.Book K.Kind self.old self.new result (λ k w t. unprotects k w t cell.index next) }
     {
-        match self.board.owners[cell as usize] {
+        match self.engine.board.owners[cell.index] {
             Some(_) => Err(StepFault::Owned),
-            None => self.set_mode(slice, t, cell, Mode::Unprotected, next),
+            None => self.set_mode(cell, Mode::Unprotected, next),
         }
     }
 
     // One step of a driver, on the cells themselves and without the book.
-    pub(crate) fn step_outside<K: Kind>(
-        &mut self,
-        slice: &mut [K],
-        t: usize,
-        place: u16,
-        op: Op,
-    ) -> Result<(), StepFault>
-        requires task { t < 16 }
-        requires long { 320 ≤ length slice.old }
-        requires fits { Bounded place op }
-        ensures { Does B.Book self.old self.new slice.new result (step_outside (meaning_of K.Kind) (world_of B.Book self.old slice.old) t place op) }
+    pub(crate) fn step_outside(&mut self, place: u16) -> Result<(), StepFault>
+        ensures { Acts B.Book K.Kind self.old self.new result (λ k w t. step_outside k w t place (op_at w.code t place)) }
     {
-        match op {
-            Op::Read { to, cell } => {
-                self.fetch(slice, t, to, cell as usize, outside_at(place + 1))
+        let at = |place| TaskState::Outside { place };
+        match self.order_at(place) {
+            Order::Read { to, cell } => self.fetch(to, cell.index, at(place + 1)),
+            Order::Write { cell, from } => self.put(cell, from, at(place + 1)),
+            Order::Constant { to, constant } => {
+                self.fetch(to, CONSTANTS + constant.index, at(place + 1))
             }
-            Op::Write { cell, from } => self.put(slice, t, cell, from, outside_at(place + 1)),
-            Op::Constant { to, constant } => {
-                self.fetch(
-                    slice,
-                    t,
-                    to,
-                    CONSTANTS + constant as usize,
-                    outside_at(place + 1),
-                )
-            }
-            Op::Apply {
+            Order::Apply {
                 operation,
                 to,
                 left,
                 right,
-            } => self.apply(slice, t, operation, to, left, right, outside_at(place + 1)),
-            Op::Jump { target } => self.go(slice, t, outside_at(target)),
-            Op::JumpIfFalse { test, target } => {
-                self.branch(slice, t, test, outside_at(place + 1), outside_at(target))
-            }
-            Op::Await { test } => self.wait(slice, t, test, outside_at(place + 1)),
-            Op::Start { task } => self.start_outside(slice, t, task, outside_at(place + 1)),
-            Op::Leave => Err(StepFault::WrongSide),
-            Op::Enter => self.go(slice, t, TaskState::Ready { place: place + 1 }),
-            Op::Protect { cell } => {
-                self.set_mode(slice, t, cell, Mode::Protected, outside_at(place + 1))
-            }
-            Op::Unprotect { cell } => self.unprotect(slice, t, cell, outside_at(place + 1)),
-            Op::Finish => self.go(slice, t, TaskState::Idle),
+            } => self.apply(operation, to, left, right, at(place + 1)),
+            Order::Jump { target } => self.go(at(target)),
+            Order::JumpIfFalse { test, target } => self.branch(test, at(place + 1), at(target)),
+            Order::Await { test } => self.wait(test, at(place + 1)),
+            Order::Start { task } => self.start_outside(task, at(place + 1)),
+            Order::Leave => Err(StepFault::WrongSide),
+            Order::Enter => self.go(TaskState::Ready { place: place + 1 }),
+            Order::Protect { cell } => self.set_mode(cell, Mode::Protected, at(place + 1)),
+            Order::Unprotect { cell } => self.unprotect(cell, at(place + 1)),
+            Order::Finish => self.go(TaskState::Idle),
         }
     }
 }

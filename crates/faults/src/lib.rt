@@ -9,7 +9,7 @@ use sheet::{Notice, Refusal as SheetRefusal};
 use value::Cause;
 
 // Why a task's next operation does not run, or its transaction does not commit.
-#[derive(Clone, Copy)]
+#[derive(Clone, Copy, PartialEq, Eq, Debug)]
 pub enum StepFault {
     WrongSide,
     AtEnd,
@@ -23,14 +23,14 @@ pub enum StepFault {
     Stale,
 }
 
-#[derive(Clone, Copy)]
+#[derive(Clone, Copy, PartialEq, Eq, Debug)]
 pub enum Side {
     Inside,
     Outside,
 }
 
 // A fault with the task that met it, its place and its side.
-#[derive(Clone, Copy)]
+#[derive(Clone, Copy, PartialEq, Eq, Debug)]
 pub struct TaskFault {
     pub task: usize,
     pub place: u16,
@@ -83,19 +83,17 @@ pub fn placing(
 ) -> Result<(), TaskFault>
     ensures { result ≡ placed task place side done }
 {
-    match done {
-        Ok(()) => Ok(()),
-        Err(fault) => Err(TaskFault {
-            task,
-            place,
-            side,
-            fault,
-        }),
-    }
+    done.map_err(|fault| TaskFault {
+        task,
+        place,
+        side,
+        fault,
+    })
 }
 
 impl TaskFault {
     // The fault's number: a cause has one outside and one inside.
+    // kept: the numbers stand in one match and not as discriminants, since a cause's hangs on its side
     fn number(self) -> u8
         ensures { result ≡ numbered self.side self.fault }
     {
@@ -117,37 +115,17 @@ impl TaskFault {
     fn told(self) -> Notice
         ensures { result ≡ notice_of (of_task self) }
     {
-        let number = self.number();
-        let first = self.task;
-        let second = self.place as usize;
-        match self.fault {
-            StepFault::NoValue(cause) => Notice {
-                number,
-                layer: 4,
-                first,
-                second,
-                cause: cause.number(),
-            },
-            _ => Notice {
-                number,
-                layer: 3,
-                first,
-                second,
-                cause: 0,
-            },
+        let (layer, cause) = match self.fault {
+            StepFault::NoValue(cause) => (4, u8::from(cause)),
+            _ => (3, 0),
+        };
+        Notice {
+            number: self.number(),
+            layer,
+            first: self.task,
+            second: usize::from(self.place),
+            cause,
         }
-    }
-}
-
-fn on_station(number: u8, task: usize) -> Notice
-    ensures { result ≡ notice number 2 task 0 0 }
-{
-    Notice {
-        number,
-        layer: 2,
-        first: task,
-        second: 0,
-        cause: 0,
     }
 }
 
@@ -157,12 +135,12 @@ impl Refusal {
         ensures { result ≡ notice_of self }
     {
         match self {
-            Refusal::ShortSlice { task } => on_station(1, task),
-            Refusal::NoSuchTask { task } => on_station(10, task),
-            Refusal::WrongState { task } => on_station(11, task),
-            Refusal::NoneOwed { task } => on_station(12, task),
+            Refusal::ShortSlice { task } => Notice::on_station(1, task),
+            Refusal::NoSuchTask { task } => Notice::on_station(10, task),
+            Refusal::WrongState { task } => Notice::on_station(11, task),
+            Refusal::NoneOwed { task } => Notice::on_station(12, task),
             Refusal::Task(fault) => fault.told(),
-            Refusal::NotIdle => on_station(25, 0),
+            Refusal::NotIdle => Notice::on_station(25, 0),
             Refusal::Sheet(refusal) => refusal.told(),
         }
     }

@@ -1,47 +1,27 @@
 -- A fragment that waits for ever lets no event occur, so that nobody is asked to keep separation.
-use Rattle.std.proofs.Common.{◌≡◌, ℕ, zero, suc, true, ℤ, Some, sym, refl, subst}
-use mathlib.Core.Bool.{false≢true}
+use Rattle.std.proofs.Common.{◌≡◌, ℕ, true, ℤ, Some, refl, subst, arith}
 use Rattle.machine.specs.Effect.{Local, asked}
-use Rattle.machine.specs.Strong.{Phase, idle, ready, active, outside, State, fragment, Event, admits, opens, runs, mode_of, given, quiet, event, Reaches, here, more}
+use Rattle.machine.specs.Strong.{active, State, fragment, driver, Event, mode_of, quiet, event, Reaches, here, more}
 use Rattle.machine.specs.Separation.{Access, may, Touches}
 use Rattle.machine.specs.Sample.{numbers}
-use Rattle.machine.specs.Waiting.{blocking, blocked, standing, Unasked}
-use Rattle.machine.proofs.Events.{none_some}
-use Rattle.machine.proofs.Quiet.{and_right}
-use Rattle.machine.proofs.Inverts.{when_true, occurred}
-use Rattle.machine.proofs.HandoverFacts.{no_third}
+use Rattle.machine.specs.Waiting.{blocking, blocked, Unasked}
 
-stuck : (e : Event) {n : State ℤ} → event numbers blocking e blocked ≡ Some n → ⊥
-stuck (admits t) is = false≢true (and_right (given blocking t) _ (when_true _ _ is).0)
-stuck (opens t) is = false≢true (and_right (given blocking t) _ (when_true _ _ is).0)
-stuck (runs zero) is = none_some is
-stuck (runs (suc zero)) is = none_some is
-stuck (runs (suc (suc t))) {n} is = no_third t (occurred numbers blocking blocked n (runs (suc (suc t))) is).known
+stuck : (e : Event) (n : State ℤ) → event numbers blocking e blocked ≡ Some n → ⊥
+stuck e n is = grind arith
 
 stays : {s : State ℤ} → Reaches numbers blocking blocked s → s ≡ blocked
 stays here = refl
-stays (more {m = m} {n = n} e way is) = absurd (stuck e (subst (λ x. event numbers blocking e x ≡ Some n) (stays way) is))
+stays (more {m = m} {n = n} e way is) = absurd (stuck e n (subst (λ x. event numbers blocking e x ≡ Some n) (stays way) is))
 
--- what an active task is about to touch, it may
-abbrev Lawful : ℕ → Phase ℤ → Type 0
-Lawful t idle = Unit {0}
-Lawful t (ready l) = Unit {0}
-Lawful t (active l) = (a : Access) (c : ℕ) → Touches (asked numbers blocking t l) a c → may fragment a (mode_of blocked c) ≡ true
-Lawful t (outside l) = Unit {0}
+module _ (s : State ℤ) (same : s ≡ blocked) (t : ℕ) (l : Local ℤ) (a : Access) (c : ℕ) (touch : Touches (asked numbers blocking t l) a c) where
+  inside : s.phase t ≡ active l → may fragment a (mode_of s c) ≡ true
+  inside at = grind arith
 
-lawful : (t : ℕ) → Lawful t (standing t)
-lawful zero = tt
-lawful (suc zero) = λ a c touch. absurd touch
-lawful (suc (suc t)) = tt
-
-abbrev Asked : State ℤ → Type 0
-Asked s = (t : ℕ) (l : Local ℤ) → s.phase t ≡ active l → (a : Access) (c : ℕ) → Touches (asked numbers blocking t l) a c → may fragment a (mode_of s c) ≡ true
-
-at_first : Asked blocked
-at_first t l at = subst (Lawful t) at (lawful t)
+  beyond : quiet blocking s ≡ true → may driver a (mode_of s c) ≡ true
+  beyond q = grind arith
 
 pub unasked : Unasked
 unasked = record {
-  fragments = λ s way t g l at. subst Asked (sym (stays way)) at_first t l at;
-  drivers = λ s way q. absurd (false≢true (subst (λ x. quiet blocking x ≡ true) (stays way) q));
+  fragments = λ s way t g l at a c touch. inside s (stays way) t l a c touch at;
+  drivers = λ s way q t g l at a c touch. beyond s (stays way) t l a c touch q;
 }

@@ -1,14 +1,8 @@
 -- What an event gives, where its conditions hold; and one way after another.
-use Rattle.std.proofs.Common.{◌≡◌, ℕ, suc, true, Some, None, arith}
+use Rattle.std.proofs.Common.{◌≡◌, ℕ, suc, true, Some}
 use Rattle.machine.specs.Update.{upd}
 use Rattle.machine.specs.Effect.{Meaning, Program, Local, asked}
 use Rattle.machine.specs.Strong.{idle, ready, active, outside, State, fragment, driver, admits, opens, runs, placed, owing, acted, first, given, quiet, event, Reaches, here, more}
-
-pub some_same : {A : Type 0} {a b : A} → Some a ≡ Some b → a ≡ b
-some_same e = cc
-
-pub none_some : {A : Type 0} {a : A} → None ≡ Some a → ⊥
-none_some e = let z : ◌≡◌ {A = ℕ} 0 1 = cc in omega arith
 
 module _ {V : Type 0} (k : Meaning V) (p : Program V) (s : State V) (t : ℕ) where
   pub admitting : (n : ℕ) → given p t ≡ true → quiet p s ≡ true → s.owed t ≡ suc n → s.phase t ≡ idle

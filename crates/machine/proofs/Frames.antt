@@ -1,36 +1,24 @@
 -- A private run over other cells, and what a run's footprint says of the cells.
-use Rattle.std.proofs.Common.{◌≡◌, ℕ, Bool, true, false, cond, eqb, Some, None, Option, refl, subst, true≢false, arith}
-use mathlib.Core.Path.{fun_ext}
-use mathlib.Core.Bool.{false≢true}
+use Rattle.std.proofs.Common.{◌≡◌, ℕ, Bool, true, subst, arith}
+use Rattle.std.specs.Option.{unwrap_or}
 use Rattle.machine.specs.Update.{upd}
 use Rattle.machine.specs.Effect.{Meaning, Program, Local, loaded}
-use Rattle.machine.specs.Fragment.{Footprint, is_there, or_else, values, noting, logging, Run, begin, go, read, write, call}
+use Rattle.machine.specs.Fragment.{Footprint, noting, Run, begin, go, read, write, call}
 use Rattle.machine.specs.FragmentLaws.{Frame}
 use Rattle.machine.proofs.Updates.{upd_same}
 
 -- what was noted stays noted
-pub noted-still : (n : ℕ → Bool) (c i : ℕ) → n i ≡ true → upd n c true i ≡ true
+noted-still : (n : ℕ → Bool) (c i : ℕ) → n i ≡ true → upd n c true i ≡ true
 noted-still n c i h = grind arith
 
 module _ {V : Type 0} where
-  pub values_logged : (cells : ℕ → V) (f : Footprint V) (c : ℕ) (v : V) → values cells (logging f c v) ≡ upd (values cells f) c v
-  values_logged cells f c v = fun_ext λ i. elim (eqb i c) as (λ b. or_else (cond b (Some v) (f.log i)) (cells i) ≡ cond b v (or_else (f.log i) (cells i))) [ true ↦ refl | false ↦ refl ]
-
-  there_same : (o : Option V) (v w : V) → is_there o ≡ true → or_else o v ≡ or_else o w
-  there_same None v w e = absurd (false≢true e)
-  there_same (Some x) v w e = refl
-
-  absent_else : (o : Option V) (v : V) → is_there o ≡ false → or_else o v ≡ v
-  absent_else None v e = refl
-  absent_else (Some x) v e = absurd (true≢false e)
-
   module _ (k : Meaning V) (p : Program V) (t : ℕ) (others : ℕ → V) where
     pub reframed : {cells : ℕ → V} {start l : Local V} {f : Footprint V} → Run k p t cells start l f
         → ((c : ℕ) → f.noted c ≡ true → others c ≡ cells c) → Run k p t others start l f
     reframed begin a = begin
     reframed (go to run asks) a = go to (reframed run a) asks
     reframed {cells} {start} (read {l = l} {f = f} to c run asks) a =
-        subst (λ v. Run k p t others start (loaded l to (or_else (f.log c) v)) (noting f c)) (a c (upd_same f.noted c true))
+        subst (λ v. Run k p t others start (loaded l to (unwrap_or (f.log c) v)) (noting f c)) (a c (upd_same f.noted c true))
         (read to c (reframed run (λ i h. a i (noted-still f.noted c i h))) asks)
     reframed (write c v run asks) a = write c v (reframed run a) asks
     reframed (call u run asks) a = call u (reframed run a) asks
@@ -38,6 +26,6 @@ module _ {V : Type 0} where
   pub frame_stands : (k : Meaning V) → Frame k
   frame_stands k p t cells others start l f run a = (
     reframed k p t others run a,
-    (λ c w. there_same (f.log c) (others c) (cells c) w),
-    (λ c w. absent_else (f.log c) (others c) w),
+    (λ c w. grind arith),
+    (λ c w. grind arith),
   )

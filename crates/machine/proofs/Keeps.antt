@@ -1,61 +1,77 @@
--- The handover keeps separation: by its facts each task may touch what it is about to touch.
-use Rattle.std.proofs.Common.{◌≡◌, ℕ, zero, suc, true, ℤ, sym, ap, subst}
-use Rattle.machine.specs.Effect.{Effect, asked}
-use Rattle.machine.specs.Strong.{Phase, idle, ready, active, outside, State, Side, fragment, driver, mode_of, given}
-use Rattle.machine.specs.Separation.{Access, reading, writing, may, Touches}
+-- The handover keeps separation: a small set of facts holds after every event, and by it each task may touch what it is about to touch.
+use Rattle.std.proofs.Common.{◌≡◌, ℕ, zero, suc, ◌⊎◌, true, ℤ, pos, Some, arith}
+use Rattle.program.specs.declared.Mode.{Mode}
+use Rattle.program.specs.declared.Mode.TheVariants.{Protected, Unprotected}
+use Rattle.machine.specs.Effect.{Local, asked}
+use Rattle.machine.specs.Strong.{Phase, idle, ready, active, outside, State, fragment, driver, Event, admits, opens, runs, mode_of, given, event, Reaches, here, more}
+use Rattle.machine.specs.Separation.{Access, may, Touches}
 use Rattle.machine.specs.Sample.{numbers}
-use Rattle.machine.specs.Handover.{handover, Kept}
-use Rattle.machine.proofs.HandoverFacts.{Taker, Adder, Good, no_third, always}
+use Rattle.machine.specs.Handover.{handover, start, Kept}
 
--- an operation that touches one cell, or none
-module _ (side : Side) (s : State ℤ) where
-  abbrev Allowed : Effect ℤ → Type 0
-  Allowed e = (a : Access) (c : ℕ) → Touches e a c → may side a (mode_of s c) ≡ true
+-- where the taker is: once past its write the flag is 0, and once past the unprotect the cell is its own
+abbrev Taker : Phase ℤ → ℤ → Mode → Type 0
+Taker idle flag m = Unit {0}
+Taker (ready l) flag m = l.place ≡ 0
+Taker (active l) flag m = (l.place ≡ 0) ⊎ (l.place ≡ 1) × (l.register 0 ≡ pos 0) ⊎ (l.place ≡ 2) × (flag ≡ pos 0)
+Taker (outside l) flag m = (l.place ≡ 3) × (flag ≡ pos 0) ⊎ (l.place ≡ 4) × (m ≡ Unprotected) ⊎ (l.place ≡ 5) × (m ≡ Unprotected) ⊎ (l.place ≡ 6)
 
-  read_one : (to d : ℕ) → may side reading (mode_of s d) ≡ true → Allowed (Effect.reads to d)
-  read_one to d h reading c x = subst (λ i. may side reading (mode_of s i) ≡ true) x h
-  read_one to d h writing c x = absurd x
+-- where the adder is: past its test the cell is still shared
+abbrev Adder : Phase ℤ → Mode → Type 0
+Adder idle m = Unit {0}
+Adder (ready l) m = l.place ≡ 0
+Adder (active l) m =
+    (l.place ≡ 0) ⊎ (l.place ≡ 1) × (m ≡ Unprotected → l.register 0 ≡ pos 0)
+    ⊎ (l.place ≡ 2) × (m ≡ Protected) ⊎ (l.place ≡ 3) × (m ≡ Protected) ⊎ (l.place ≡ 4) × (m ≡ Protected) ⊎ (l.place ≡ 5)
+Adder (outside l) m = ⊥
 
-  write_one : (d : ℕ) (v : ℤ) → may side writing (mode_of s d) ≡ true → Allowed (Effect.writes d v)
-  write_one d v h reading c x = absurd x
-  write_one d v h writing c x = subst (λ i. may side writing (mode_of s i) ≡ true) x h
+record Good (s : State ℤ) : Type 0 where
+  flag_shared : s.mode 0 ≡ Protected
+  flag_clear : s.mode 1 ≡ Unprotected → s.cell 0 ≡ pos 0
+  taker : Taker (s.phase 0) (s.cell 0) (s.mode 1)
+  adder : Adder (s.phase 1) (s.mode 1)
 
--- what a task in a phase is about to touch, it may
-abbrev Lawful : State ℤ → ℕ → Phase ℤ → Type 0
-Lawful s t idle = Unit {0}
-Lawful s t (ready l) = Unit {0}
-Lawful s t (active l) = Allowed fragment s (asked numbers handover t l)
-Lawful s t (outside l) = Allowed driver s (asked numbers handover t l)
+-- each event of either task; no other task is given
+module _ (s n : State ℤ) (good : Good s) where
+  admits_taker : event numbers handover (admits 0) s ≡ Some n → Good n
+  admits_taker is = grind arith
 
-module _ (s : State ℤ) (good : Good s) where
-  taker-lawful : Taker (s.phase 0) (s.cell 0) (s.mode 1) → Lawful s 0 (s.phase 0)
-  taker-lawful (Taker.rests e) = subst (Lawful s 0) (sym e) tt
-  taker-lawful (Taker.waits r e) = subst (Lawful s 0) (sym e) tt
-  taker-lawful (Taker.loads r e) = subst (Lawful s 0) (sym e) (λ a c x. absurd x)
-  taker-lawful (Taker.clears r e z) = subst (Lawful s 0) (sym e) (write_one fragment s 0 (r 0) (ap (may fragment writing) good.flag_shared))
-  taker-lawful (Taker.leaves r e z) = subst (Lawful s 0) (sym e) (λ a c x. absurd x)
-  taker-lawful (Taker.takes r e z) = subst (Lawful s 0) (sym e) (λ a c x. absurd x)
-  taker-lawful (Taker.loads_more r e m) = subst (Lawful s 0) (sym e) (λ a c x. absurd x)
-  taker-lawful (Taker.writes r e m) = subst (Lawful s 0) (sym e) (write_one driver s 1 (r 1) (ap (may driver writing) m))
-  taker-lawful (Taker.ends r e) = subst (Lawful s 0) (sym e) (λ a c x. absurd x)
+  admits_adder : event numbers handover (admits 1) s ≡ Some n → Good n
+  admits_adder is = grind arith
 
-  adder-lawful : Adder (s.phase 1) (s.mode 1) → Lawful s 1 (s.phase 1)
-  adder-lawful (Adder.rests e) = subst (Lawful s 1) (sym e) tt
-  adder-lawful (Adder.waits r e) = subst (Lawful s 1) (sym e) tt
-  adder-lawful (Adder.looks r e) = subst (Lawful s 1) (sym e) (read_one fragment s 0 0 (ap (may fragment reading) good.flag_shared))
-  adder-lawful (Adder.tests r e z) = subst (Lawful s 1) (sym e) (λ a c x. absurd x)
-  adder-lawful (Adder.reads r e m) = subst (Lawful s 1) (sym e) (read_one fragment s 1 1 (ap (may fragment reading) m))
-  adder-lawful (Adder.adds r e m) = subst (Lawful s 1) (sym e) (λ a c x. absurd x)
-  adder-lawful (Adder.writes r e m) = subst (Lawful s 1) (sym e) (write_one fragment s 1 (r 1) (ap (may fragment writing) m))
-  adder-lawful (Adder.ends r e) = subst (Lawful s 1) (sym e) (λ a c x. absurd x)
+  opens_taker : event numbers handover (opens 0) s ≡ Some n → Good n
+  opens_taker is = grind arith
 
-  lawful : (t : ℕ) → given handover t ≡ true → Lawful s t (s.phase t)
-  lawful zero g = taker-lawful good.taker
-  lawful (suc zero) g = adder-lawful good.adder
-  lawful (suc (suc t)) g = absurd (no_third t g)
+  opens_adder : event numbers handover (opens 1) s ≡ Some n → Good n
+  opens_adder is = grind arith
+
+  runs_taker : event numbers handover (runs 0) s ≡ Some n → Good n
+  runs_taker is = grind arith
+
+  runs_adder : event numbers handover (runs 1) s ≡ Some n → Good n
+  runs_adder is = grind arith
+
+  kept : (e : Event) → event numbers handover e s ≡ Some n → Good n
+  kept (admits zero) = admits_taker
+  kept (admits (suc zero)) = admits_adder
+  kept (opens zero) = opens_taker
+  kept (opens (suc zero)) = opens_adder
+  kept (runs zero) = runs_taker
+  kept (runs (suc zero)) = runs_adder
+  kept _ = λ is. grind arith
+
+always : {s : State ℤ} → Reaches numbers handover start s → Good s
+always here = grind arith
+always (more {m = m} {n = n} e way is) = kept m n (always way) e is
+
+module _ (s : State ℤ) (good : Good s) (t : ℕ) (g : given handover t ≡ true) (l : Local ℤ) (a : Access) (c : ℕ) (touch : Touches (asked numbers handover t l) a c) where
+  inside : s.phase t ≡ active l → may fragment a (mode_of s c) ≡ true
+  inside at = grind arith
+
+  beyond : s.phase t ≡ outside l → may driver a (mode_of s c) ≡ true
+  beyond at = grind arith
 
 pub keeps : Kept
 keeps = record {
-  fragments = λ s way t g l at-l. subst (Lawful s t) at-l (lawful s (always way) t g);
-  drivers = λ s way q t g l at-l. subst (Lawful s t) at-l (lawful s (always way) t g);
+  fragments = λ s way t g l at a c touch. inside s (always way) t g l a c touch at;
+  drivers = λ s way q t g l at a c touch. beyond s (always way) t g l a c touch at;
 }

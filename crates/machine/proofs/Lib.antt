@@ -1,4 +1,5 @@
 pub mod Updates
+pub mod Alike
 pub mod Events
 pub mod Frames
 pub mod Embeds
@@ -10,7 +11,5 @@ pub mod Inverts
 pub mod Faithfully
 pub mod Singly
 pub mod Samples
-pub mod HandoverFacts
 pub mod Keeps
 pub mod Blocks
-pub mod Tabulated

@@ -1,9 +1,9 @@
 -- Never are two tasks active at once.
-use Rattle.std.proofs.Common.{◌≡◌, ℕ, true, eqb, Some, sym, ap, ◌∙◌, inl, inr, true≢false}
+use Rattle.std.proofs.Common.{◌≡◌, ℕ, true, arith}
+use Rattle.std.proofs.lemmas.Bool.Decides.{nat_tests}
 use Rattle.machine.specs.Effect.{Meaning, Program}
-use Rattle.machine.specs.Strong.{State, Event, is_active, given, quiet, event, Reaches, here, more}
+use Rattle.machine.specs.Strong.{State, is_active, given, quiet, Reaches, here, more}
 use Rattle.machine.specs.MachineLaws.{OneAtATime}
-use Rattle.machine.proofs.Updates.{upd_other, eqb-true, decide}
 use Rattle.machine.proofs.Quiet.{quiet_each}
 use Rattle.machine.proofs.Inverts.{Occurred, occurred, task_of}
 
@@ -12,28 +12,15 @@ module _ {V : Type 0} (k : Meaning V) (p : Program V) where
   Single s = (t u : ℕ) → given p t ≡ true → given p u ≡ true → is_active (s.phase t) ≡ true → is_active (s.phase u) ≡ true → t ≡ u
 
   quiet_single : (s : State V) → quiet p s ≡ true → Single s
-  quiet_single s q t u gt gu at au = absurd (true≢false (sym at ∙ quiet_each p s q t gt))
+  quiet_single s q t u gt gu at au = let off = quiet_each p s q t gt in cc
 
   -- after an event only its own task may be active
-  only : (s n : State V) (t : ℕ) → Single s → Occurred k p s n t → (u : ℕ) → given p u ≡ true → is_active (n.phase u) ≡ true → u ≡ t
-  only s n t single o u g a =
-      elim (decide (eqb u t)) [
-        | inl same ↦ eqb-true u t same
-        | inr other ↦ (let before : is_active (s.phase u) ≡ true = sym (ap (λ f. is_active (f u)) o.moves ∙ ap is_active (upd_other s.phase t o.to u other)) ∙ a in
-            elim o.turn [
-              | inl q ↦ absurd (true≢false (sym before ∙ quiet_each p s q u g))
-              | inr at ↦ single u t g o.known before at
-            ])
-      ]
-
-  kept : (s n : State V) (e : Event) → Single s → event k p e s ≡ Some n → Single n
-  kept s n e single is t u gt gu at au =
-      let o = occurred k p s n e is in
-      only s n (task_of e) single o t gt at ∙ sym (only s n (task_of e) single o u gu au)
+  kept : (s n : State V) (t : ℕ) → Single s → Occurred k p s n t → Single n
+  kept s n t single o = grind (arith, nat_tests, quiet_each)
 
   always : {s₀ s : State V} → Single s₀ → Reaches k p s₀ s → Single s
   always single here = single
-  always single (more {m = m} {n = n} e way is) = kept m n e (always single way) is
+  always single (more {m = m} {n = n} e way is) = kept m n (task_of e) (always single way) (occurred k p m n e is)
 
 pub one_at_a_time_stands : {V : Type 0} (k : Meaning V) → OneAtATime k
 one_at_a_time_stands k p s₀ s q way = always k p (quiet_single k p s₀ q) way

@@ -51,7 +51,7 @@ pub data Effect (V : Type 0) : Type 0 where
 
 module _ {V : Type 0} where
   abbrev pub jumped : Local V → ℕ → Local V
-  jumped l n = record { place = n; register = l.register }
+  jumped l n = record l { place = n }
 
   abbrev pub next : Local V → Local V
   next l = jumped l (l.place + 1)

@@ -1,5 +1,6 @@
 -- A private run: what one fragment does alone, over the cells that stand when it opens. No other task, mode or owed count occurs in it.
 use Rattle.std.specs.Prelude.{◌≡◌, ℕ, ◌+◌, Bool, true, false, Some, None, Option}
+use Rattle.std.specs.Option.{is_some, unwrap_or}
 use Rattle.machine.specs.Update.{upd, one_more}
 use Rattle.machine.specs.Effect.{Meaning, Program, Local, next, loaded, goes, reads, writes, starts, asked}
 use Rattle.machine.specs.Strong.{Phase, ready, State, given, quiet}
@@ -11,33 +12,25 @@ pub record Footprint (V : Type 0) : Type 0 where
   pub calls : ℕ → ℕ
 
 module _ {V : Type 0} where
-  abbrev pub is_there : Option V → Bool
-  is_there None = false
-  is_there (Some v) = true
-
-  abbrev pub or_else : Option V → V → V
-  or_else None v = v
-  or_else (Some w) v = w
-
   -- the run wrote this cell
   abbrev pub wrote : Footprint V → ℕ → Bool
-  wrote f c = is_there (f.log c)
+  wrote f c = is_some (f.log c)
 
   -- the cells' values after the run
   abbrev pub values : (ℕ → V) → Footprint V → ℕ → V
-  values cells f c = or_else (f.log c) (cells c)
+  values cells f c = unwrap_or (f.log c) (cells c)
 
   abbrev pub untouched : Footprint V
   untouched = record { log = λ _. None; noted = λ _. false; calls = λ _. 0 }
 
   abbrev pub noting : Footprint V → ℕ → Footprint V
-  noting f c = record { log = f.log; noted = upd f.noted c true; calls = f.calls }
+  noting f c = record f { noted = upd f.noted c true }
 
   abbrev pub logging : Footprint V → ℕ → V → Footprint V
-  logging f c v = record { log = upd f.log c (Some v); noted = f.noted; calls = f.calls }
+  logging f c v = record f { log = upd f.log c (Some v) }
 
   abbrev pub calling : Footprint V → ℕ → Footprint V
-  calling f u = record { log = f.log; noted = f.noted; calls = one_more f.calls u }
+  calling f u = record f { calls = one_more f.calls u }
 
   -- the strong state s, with what a run of task t did and the phase that the task has come to
   abbrev pub after : State V → ℕ → Footprint V → Phase V → State V

@@ -1,7 +1,7 @@
 -- Laws of private runs, for every program over a kind of value.
 use Rattle.std.specs.Prelude.{◌≡◌, ℕ, Bool, true, false, Some}
 use Rattle.value.specs.declared.codes.Cause.{Cause}
-use Rattle.machine.specs.Effect.{Meaning, Program, Local, next, Effect, goes, waits, faults, reads, writes, starts, leaves, enters, sets, finishes, asked}
+use Rattle.machine.specs.Effect.{Meaning, Program, Local, next, Effect, goes, faults, reads, writes, starts, leaves, finishes, asked}
 use Rattle.machine.specs.Strong.{idle, active, outside, State, opens, fragment, mode_of, quiet, event, Reaches}
 use Rattle.machine.specs.Fault.{Faces}
 use Rattle.machine.specs.Separation.{Access, reading, writing, may, Touches, Separated}
@@ -12,15 +12,10 @@ module _ {V : Type 0} where
   -- a private run does not go past such an operation
   abbrev pub stops : Effect V → Bool
   stops (goes l) = false
-  stops waits = true
-  stops (faults cause) = true
   stops (reads to c) = false
   stops (writes c v) = false
   stops (starts u) = false
-  stops leaves = true
-  stops enters = true
-  stops (sets c m) = true
-  stops finishes = true
+  stops _ = true
 
   module _ (k : Meaning V) where
     -- on a way from s to n is a state, with the modes of s, in which task t is active and about to touch the cell

@@ -14,7 +14,7 @@ use Rattle.machine.specs.Sample.{numbers, plays}
 abbrev pub pair : List Op → List Op → ℕ → ℕ → Op
 pair a b zero place = slice_index_or a place Finish
 pair a b (suc zero) place = slice_index_or b place Finish
-pair a b (suc (suc t)) place = Finish
+pair a b _ place = Finish
 
 -- constant 0 is 0 and constant 1 is 100
 abbrev pub program : List Op → List Op → Program ℤ

@@ -2,7 +2,7 @@
 use Rattle.std.specs.Prelude.{◌≡◌, ℕ, Bool, true, false}
 use Rattle.program.specs.declared.Mode.{Mode}
 use Rattle.program.specs.declared.Mode.TheVariants.{Protected, Unprotected}
-use Rattle.machine.specs.Effect.{Meaning, Program, Local, Effect, goes, waits, faults, reads, writes, starts, leaves, enters, sets, finishes, asked}
+use Rattle.machine.specs.Effect.{Meaning, Program, Local, Effect, reads, writes, asked}
 use Rattle.machine.specs.Strong.{active, outside, State, Side, fragment, driver, mode_of, given, quiet, Reaches}
 
 pub data Access : Type 0 where
@@ -20,17 +20,8 @@ module _ {V : Type 0} where
   -- the cell is what the operation reads, or what it writes
   abbrev pub Touches : Effect V → Access → ℕ → Type 0
   Touches (reads to c) reading i = c ≡ i
-  Touches (reads to c) writing i = ⊥
-  Touches (writes c v) reading i = ⊥
   Touches (writes c v) writing i = c ≡ i
-  Touches (goes l) a i = ⊥
-  Touches waits a i = ⊥
-  Touches (faults cause) a i = ⊥
-  Touches (starts u) a i = ⊥
-  Touches leaves a i = ⊥
-  Touches enters a i = ⊥
-  Touches (sets c m) a i = ⊥
-  Touches finishes a i = ⊥
+  Touches _ _ _ = ⊥
 
   module _ (k : Meaning V) (p : Program V) where
     -- in every state reached from s₀, an active task, and while none is active an outside one, may touch the cell that it is about to touch

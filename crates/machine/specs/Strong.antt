@@ -2,7 +2,7 @@
 use Rattle.std.specs.Prelude.{◌≡◌, ℕ, zero, suc, Bool, true, false, cond, not, ◌&&◌, Some, None, Option, nat_lt}
 use Rattle.program.specs.declared.Mode.{Mode}
 use Rattle.machine.specs.Update.{upd, one_more}
-use Rattle.machine.specs.Effect.{Meaning, Program, Local, next, loaded, Effect, goes, waits, faults, reads, writes, starts, leaves, enters, sets, finishes, asked}
+use Rattle.machine.specs.Effect.{Meaning, Program, Local, next, loaded, Effect, goes, reads, writes, starts, leaves, enters, sets, finishes, asked}
 
 -- A task is idle, about to begin a fragment, in one, or outside as a driver.
 pub data Phase (V : Type 0) : Type 0 where
@@ -34,10 +34,8 @@ module _ {V : Type 0} where
   phase_on driver l = outside l
 
   abbrev pub is_active : Phase V → Bool
-  is_active idle = false
-  is_active (ready l) = false
   is_active (active l) = true
-  is_active (outside l) = false
+  is_active _ = false
 
   -- none of the first n tasks is active
   abbrev pub none_active : ℕ → (ℕ → Phase V) → Bool
@@ -48,49 +46,40 @@ module _ {V : Type 0} where
   mode_of s c = s.mode c
 
   abbrev pub placed : State V → ℕ → Phase V → State V
-  placed s t phase = record { cell = s.cell; mode = s.mode; owed = s.owed; phase = upd s.phase t phase }
+  placed s t phase = record s { phase = upd s.phase t phase }
 
   abbrev pub stored : State V → ℕ → V → State V
-  stored s c v = record { cell = upd s.cell c v; mode = s.mode; owed = s.owed; phase = s.phase }
+  stored s c v = record s { cell = upd s.cell c v }
 
   abbrev pub guarded : State V → ℕ → Mode → State V
-  guarded s c m = record { cell = s.cell; mode = upd s.mode c m; owed = s.owed; phase = s.phase }
+  guarded s c m = record s { mode = upd s.mode c m }
 
   abbrev pub owing : State V → (ℕ → ℕ) → State V
-  owing s owed = record { cell = s.cell; mode = s.mode; owed = owed; phase = s.phase }
+  owing s owed = record s { owed = owed }
 
   -- task t, on its side at l, does what its operation asks
   abbrev pub acted : Side → State V → ℕ → Local V → Effect V → Option (State V)
   acted side s t l (goes to) = Some (placed s t (phase_on side to))
-  acted side s t l waits = None
-  acted side s t l (faults cause) = None
   acted side s t l (reads to c) = Some (placed s t (phase_on side (loaded l to (s.cell c))))
   acted side s t l (writes c v) = Some (placed (stored s c v) t (phase_on side (next l)))
   acted side s t l (starts u) = Some (placed (owing s (one_more s.owed u)) t (phase_on side (next l)))
   acted fragment s t l leaves = Some (placed s t (outside (next l)))
-  acted driver s t l leaves = None
-  acted fragment s t l enters = None
   acted driver s t l enters = Some (placed s t (ready (next l)))
-  acted fragment s t l (sets c m) = None
   acted driver s t l (sets c m) = Some (placed (guarded s c m) t (outside (next l)))
   acted side s t l finishes = Some (placed s t idle)
+  acted _ s t l _ = None
 
   -- a task begins at place 0 with zeros
   abbrev pub first : Meaning V → Local V
   first k = record { place = 0; register = λ _. k.nought }
 
   abbrev pub admitted : Meaning V → State V → ℕ → ℕ → Phase V → Option (State V)
-  admitted k s t zero idle = None
   admitted k s t (suc n) idle = Some (placed (owing s (upd s.owed t n)) t (ready (first k)))
-  admitted k s t n (ready l) = None
-  admitted k s t n (active l) = None
-  admitted k s t n (outside l) = None
+  admitted k s t _ _ = None
 
   abbrev pub opened : State V → ℕ → Phase V → Option (State V)
-  opened s t idle = None
   opened s t (ready l) = Some (placed s t (active l))
-  opened s t (active l) = None
-  opened s t (outside l) = None
+  opened s t _ = None
 
   -- only if the test is true
   abbrev pub when : Bool → Option (State V) → Option (State V)
@@ -106,10 +95,9 @@ module _ {V : Type 0} where
 
 module _ {V : Type 0} (k : Meaning V) (p : Program V) where
   abbrev pub ran : State V → ℕ → Phase V → Option (State V)
-  ran s t idle = None
-  ran s t (ready l) = None
   ran s t (active l) = acted fragment s t l (asked k p t l)
   ran s t (outside l) = when (quiet p s) (acted driver s t l (asked k p t l))
+  ran s t _ = None
 
   -- the state after an event, where it can occur
   abbrev pub event : Event → State V → Option (State V)

@@ -1,7 +1,7 @@
 -- A function of the number, changed at one place.
 use Rattle.std.specs.Prelude.{ℕ, ◌+◌, cond, ◌==◌}
 
--- f, but v at k
+-- f, but v at k. kept: the book has this word too, and the strong machine does not stand on the read tracker
 abbrev pub upd : {A : Type 0} → (ℕ → A) → ℕ → A → ℕ → A
 upd f k v i = cond (i == k) v (f i)
 

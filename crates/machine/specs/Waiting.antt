@@ -14,7 +14,7 @@ blocking = program (Write 0 0 ∷ []) (Await 0 ∷ [])
 abbrev pub standing : ℕ → Phase ℤ
 standing zero = outside (first numbers)
 standing (suc zero) = active (first numbers)
-standing (suc (suc t)) = idle
+standing _ = idle
 
 abbrev pub blocked : State ℤ
 blocked = record { cell = λ _. pos 0; mode = λ _. Protected; owed = λ _. 1; phase = standing }

@@ -14,11 +14,11 @@ use Rattle.model.proofs.Undone.{undone-quiet, alone}
 use Rattle.model.proofs.Facts.{known_at, run_at}
 
 module _ {V : Type 0} (k : Meaning V) where
-  pub fault_inside-stands : FaultInside k
-  fault_inside-stands p s₀ m inv t l o cause at fresh asks =
+  pub fault_inside_stands : FaultInside k
+  fault_inside_stands p s₀ m inv t l o cause at fresh asks =
       let met = fault_met_stands k p (undone m) t l (footprint m t) cause (alone k p m t l o (known_at inv t (inside l o) at refl).0 at (run_at inv t l o at fresh)) asks in
       (after (undone m) t (footprint m t) (active l), joined k p inv.reach met.0, upd_same (undone m).phase t (active l), met.1)
 
-  pub fault_outside-stands : FaultOutside k
-  fault_outside-stands p s₀ m inv t l cause at asks =
+  pub fault_outside_stands : FaultOutside k
+  fault_outside_stands p s₀ m inv t l cause at asks =
       (inv.reach, undone-quiet p m, ap settled at, ap (λ st. fault_in k p t (settled st)) at ∙ ap (fault_of l) asks)

@@ -1,11 +1,7 @@
-pub mod Points
 pub mod Notes
 pub mod Undone
 pub mod Facts
 pub mod Shifting
-pub mod Keeping
-pub mod Inside
-pub mod Outside
-pub mod Ends
+pub mod Holding
 pub mod Kept
 pub mod Faults

@@ -1,5 +1,6 @@
 -- Laws of the engine's moves, for every program over a kind of value.
 use Rattle.std.specs.Prelude.{◌≡◌, ℕ, true, false}
+use Rattle.std.specs.Option.{is_some}
 use Rattle.value.specs.declared.codes.Cause.{Cause}
 use Rattle.book.specs.Seen.{a_task}
 use Rattle.machine.specs.Effect.{Meaning, Program, Local, faults, asked}
@@ -7,7 +8,7 @@ use Rattle.machine.specs.Strong.{active, outside, State, given, quiet, Reaches}
 use Rattle.machine.specs.Fault.{Faces}
 use Rattle.machine.specs.Separation.{Separated}
 use Rattle.model.specs.Model.{inside, out, Model, is_inside, undone}
-use Rattle.model.specs.Moves.{held, Move}
+use Rattle.model.specs.Moves.{Move}
 use Rattle.model.specs.Inv.{is_off, Inv}
 use Rattle.model.specs.Parts.{part_of, ShiftsBy}
 
@@ -19,7 +20,7 @@ module _ {V : Type 0} (k : Meaning V) where
 
   -- The invariant holds at first, where no task is inside and no cell is owned.
   abbrev pub AtFirst : Type 0
-  AtFirst = (p : Program V) (m : Model V) → ((t : ℕ) → is_inside (m.stage t) ≡ false) → ((c : ℕ) → held (m.owner c) ≡ false)
+  AtFirst = (p : Program V) (m : Model V) → ((t : ℕ) → is_inside (m.stage t) ≡ false) → ((c : ℕ) → is_some (m.owner c) ≡ false)
       → ((t : ℕ) → is_off (m.stage t) ≡ false → (given p t ≡ true) × (a_task t ≡ true))
       → Inv k p (undone m) m
 

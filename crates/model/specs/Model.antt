@@ -25,10 +25,8 @@ pub record Model (V : Type 0) : Type 0 where
 
 module _ {V : Type 0} where
   abbrev pub is_inside : Stage V → Bool
-  is_inside off = false
-  is_inside (waiting l) = false
   is_inside (inside l o) = true
-  is_inside (out l) = false
+  is_inside _ = false
 
   -- an owned cell has its saved value again
   abbrev pub before : Option ℕ → V → V → V

@@ -1,5 +1,6 @@
 -- What an accepted call does to the engine's state, and how the undone state moves.
-use Rattle.std.specs.Prelude.{◌≡◌, ℕ, suc, ◌+◌, Bool, true, false, cond, Some, None, Option, ◌==◌}
+use Rattle.std.specs.Prelude.{◌≡◌, ℕ, suc, ◌+◌, true, false, cond, Some, None, Option, ◌==◌}
+use Rattle.std.specs.Option.{is_some}
 use Rattle.program.specs.declared.Mode.{Mode}
 use Rattle.program.specs.declared.Mode.TheVariants.{Protected}
 use Rattle.book.specs.Seen.{Seen, begun, noting, finished, rested, a_task, a_cell}
@@ -10,10 +11,6 @@ use Rattle.machine.specs.Fragment.{Footprint, after, Alone}
 use Rattle.board.specs.Boards.{mine, another}
 use Rattle.model.specs.Model.{Stage, off, waiting, inside, out, Model, is_inside}
 
-abbrev pub held : Option ℕ → Bool
-held None = false
-held (Some t) = true
-
 -- the owner, once t has let go
 abbrev pub freed : ℕ → Option ℕ → Option ℕ
 freed t None = None
@@ -22,32 +19,32 @@ freed t (Some u) = cond (u == t) None (Some u)
 module _ {V : Type 0} where
   -- task t has come to another stage
   abbrev pub moved : Model V → ℕ → Stage V → Model V
-  moved m t st = record { cell = m.cell; mode = m.mode; owner = m.owner; saved = m.saved; owed = m.owed; own = m.own; seen = m.seen; stage = upd m.stage t st }
+  moved m t st = record m { stage = upd m.stage t st }
 
   abbrev pub told : Model V → Seen → Model V
-  told m s = record { cell = m.cell; mode = m.mode; owner = m.owner; saved = m.saved; owed = m.owed; own = m.own; seen = s; stage = m.stage }
+  told m s = record m { seen = s }
 
   abbrev pub stored : Model V → ℕ → V → Model V
-  stored m c v = record { cell = upd m.cell c v; mode = m.mode; owner = m.owner; saved = m.saved; owed = m.owed; own = m.own; seen = m.seen; stage = m.stage }
+  stored m c v = record m { cell = upd m.cell c v }
 
   -- task t owns the cell, and its value is saved
   abbrev pub taken : Model V → ℕ → ℕ → Model V
-  taken m t c = record { cell = m.cell; mode = m.mode; owner = upd m.owner c (Some t); saved = upd m.saved c (m.cell c); owed = m.owed; own = m.own; seen = m.seen; stage = m.stage }
+  taken m t c = record m { owner = upd m.owner c (Some t); saved = upd m.saved c (m.cell c) }
 
   abbrev pub guarded : Model V → ℕ → Mode → Model V
-  guarded m c d = record { cell = m.cell; mode = upd m.mode c d; owner = m.owner; saved = m.saved; owed = m.owed; own = m.own; seen = m.seen; stage = m.stage }
+  guarded m c d = record m { mode = upd m.mode c d }
 
   abbrev pub owing : Model V → (ℕ → ℕ) → Model V
-  owing m f = record { cell = m.cell; mode = m.mode; owner = m.owner; saved = m.saved; owed = f; own = m.own; seen = m.seen; stage = m.stage }
+  owing m f = record m { owed = f }
 
   abbrev pub counting : Model V → ℕ → (ℕ → ℕ) → Model V
-  counting m t f = record { cell = m.cell; mode = m.mode; owner = m.owner; saved = m.saved; owed = m.owed; own = upd m.own t f; seen = m.seen; stage = m.stage }
+  counting m t f = record m { own = upd m.own t f }
 
   abbrev pub released : Model V → ℕ → Model V
-  released m t = record { cell = m.cell; mode = m.mode; owner = λ c. freed t (m.owner c); saved = m.saved; owed = m.owed; own = m.own; seen = m.seen; stage = m.stage }
+  released m t = record m { owner = λ c. freed t (m.owner c) }
 
   abbrev pub restored : Model V → ℕ → Model V
-  restored m t = record { cell = λ c. cond (mine t (m.owner c)) (m.saved c) (m.cell c); mode = m.mode; owner = m.owner; saved = m.saved; owed = m.owed; own = m.own; seen = m.seen; stage = m.stage }
+  restored m t = record m { cell = λ c. cond (mine t (m.owner c)) (m.saved c) (m.cell c) }
 
   -- what t's transaction did takes effect, and the task goes on
   abbrev pub committed : Model V → ℕ → Stage V → Model V
@@ -86,7 +83,7 @@ module _ {V : Type 0} where
       enter : (t : ℕ) (l : Local V) → m.stage t ≡ out l → asked k p t l ≡ enters
           → Move m (moved m t (waiting (next l)))
       set_mode : (t : ℕ) (l : Local V) (c : ℕ) (d : Mode) → m.stage t ≡ out l → asked k p t l ≡ sets c d
-          → (held (m.owner c) ≡ true → d ≡ Protected)
+          → (is_some (m.owner c) ≡ true → d ≡ Protected)
           → Move m (moved (guarded m c d) t (out (next l)))
       finish_out : (t : ℕ) (l : Local V) → m.stage t ≡ out l → asked k p t l ≡ finishes
           → Move m (moved m t off)

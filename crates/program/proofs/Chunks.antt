@@ -1,6 +1,6 @@
 -- A table cut into pieces: one piece more, one element more of the last, and where an element stands.
 use Rattle.std.proofs.Common.{◌≡◌, ℕ, zero, suc, ◌+◌, ◌<◌, ◌≤◌, List, [], ◌∷◌, ◌++◌, length, get_or, take, drop, sum_by, sum, sym, refl, ap, ◌∙◌, arith}
-use Rattle.std.proofs.lemmas.List.{take_all, take-append-le, drop-append-le, length-drop, length_push, length-take-le, drop-drop, get_or-take, get_or-drop}
+use Rattle.std.proofs.lemmas.List.{take_all, take-append-le, drop-append-le, length-drop, length_push, length-take-le, drop-drop}
 use Rattle.std.proofs.lemmas.List.Sums.{sum_by-cons}
 use Rattle.program.specs.Code.{on_last, chunks}
 
@@ -57,13 +57,3 @@ pub ends-within : (ns : List ℕ) (t : ℕ) → t < length ns → sum (take t ns
 ends-within [] t h = absurd (omega arith)
 ends-within (n ∷ ns) zero h = omega (arith, sum_cons n ns)
 ends-within (n ∷ ns) (suc t) h = omega (arith, sum_cons n ns, sum_cons n (take t ns), ends-within ns t (omega arith))
-
-pub piece_length : {X : Type 0} (ns : List ℕ) (xs : List X) (t : ℕ) → t < length ns → sum ns ≡ length xs → length (get_or (chunks ns xs) t []) ≡ get_or ns t 0
-piece_length ns xs t h e =
-    ap length (get_or-chunks ns xs t h)
-    ∙ length-take-le (get_or ns t 0) (drop (sum (take t ns)) xs) (omega (arith, ends-within ns t h, length-drop (sum (take t ns)) xs))
-
-pub piece_at : {X : Type 0} (ns : List ℕ) (xs : List X) (t p : ℕ) (d : X) → t < length ns → p < get_or ns t 0 → get_or (get_or (chunks ns xs) t []) p d ≡ get_or xs (sum (take t ns) + p) d
-piece_at ns xs t p d h g =
-    ap (λ l. get_or l p d) (get_or-chunks ns xs t h)
-    ∙ (get_or-take (get_or ns t 0) (drop (sum (take t ns)) xs) p d g ∙ get_or-drop (sum (take t ns)) xs p d)

@@ -3,6 +3,7 @@ use Rattle.std.specs.Prelude.{List, take}
 use Rattle.program.specs.declared.Op.{Op}
 use Rattle.program.specs.declared.table.Program.{Program}
 use Rattle.program.specs.Code.{chunks}
+use Rattle.program.specs.Spans.{lens}
 
 abbrev pub code : Program → List (List Op)
-code p = chunks (take p.count p.lens) (take p.used p.ops)
+code p = chunks (take p.count (lens p.spans)) (take p.used p.ops)

@@ -5,7 +5,7 @@ use value::Operation;
 
 mod table;
 
-pub use table::Program;
+pub use table::{Full, Program};
 
 // Which side a cell is on: protected cells are for transactions, unprotected ones for drivers.
 #[derive(Clone, Copy)]

@@ -1,19 +1,31 @@
 ghost use Rattle.std.specs.Prelude.{◌≡◌, ℕ, ◌<◌, ◌≤◌, length, take, sum, slice_index};
+ghost use Rattle.program.specs.Spans.{firsts, lens};
 
 use crate::Op;
 
 mod edit;
 mod look;
 
-// The operations of at most 16 tasks, 1,024 in all, in one table: task after task, each by its first place and its length.
+// Where a task's operations stand in the table.
+#[derive(Clone, Copy)]
+struct Span {
+    first: u16,
+    len: u16,
+}
+
+// There is no room for what was to be added.
+#[derive(Clone, Copy, PartialEq, Eq, Debug)]
+pub struct Full;
+
+// The operations of at most 16 tasks, 1,024 in all, task after task.
+// kept: `ops` with `used`, and `spans` with `count`: a plain inner table is fixed memory, and the program is `Copy`.
 #[derive(Clone, Copy)]
 pub struct Program {
     ops: [Op; 1024],
     used: usize,
-    firsts: [u16; 16],
-    lens: [u16; 16],
+    spans: [Span; 16],
     count: usize,
-    ghost sizes: { (length ops ≡ 1024) × (length firsts ≡ 16) × (length lens ≡ 16) × (count ≤ 16) × (used ≤ 1024) },
-    ghost filled: { sum (take count lens) ≡ used },
-    ghost placed: { (t : ℕ) → t < count → slice_index firsts t ≡ sum (take t lens) },
+    ghost sizes: { (length ops ≡ 1024) × (length spans ≡ 16) × (count ≤ 16) × (used ≤ 1024) },
+    ghost filled: { sum (take count (lens spans)) ≡ used },
+    ghost placed: { (t : ℕ) → t < count → slice_index (firsts spans) t ≡ sum (take t (lens spans)) },
 }

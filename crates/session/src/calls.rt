@@ -25,20 +25,10 @@ fn task_of(line: &[u8], head: &[u8]) -> Option<usize>
 pub fn call_of(line: &[u8]) -> Option<Call>
     ensures { result ≡ called line.now }
 {
-    if let Some(t) = task_of(line, b"(admit ") {
-        return Some(Call::Admit(t));
-    }
-    if let Some(t) = task_of(line, b"(open ") {
-        return Some(Call::Open(t));
-    }
-    if let Some(t) = task_of(line, b"(step ") {
-        return Some(Call::Step(t));
-    }
-    if let Some(t) = task_of(line, b"(commit ") {
-        return Some(Call::Commit(t));
-    }
-    if let Some(t) = task_of(line, b"(undo ") {
-        return Some(Call::Undo(t));
-    }
-    None
+    task_of(line, b"(admit ")
+        .map(Call::Admit)
+        .or_else(|| task_of(line, b"(open ").map(Call::Open))
+        .or_else(|| task_of(line, b"(step ").map(Call::Step))
+        .or_else(|| task_of(line, b"(commit ").map(Call::Commit))
+        .or_else(|| task_of(line, b"(undo ").map(Call::Undo))
 }

@@ -1,25 +1,12 @@
--- One item more: a cell, a constant, a task or an operation, in the arrays of a sheet and in its content.
-use Rattle.std.proofs.Common.{◌≡◌, ℕ, suc, ◌+◌, ◌<◌, ◌≤◌, true, false, ltb, List, [], ◌∷◌, ◌++◌, length, take, set, Some, Ok, sum_by, sym, refl, ap, ◌∙◌, arith}
-use Rattle.std.proofs.lemmas.List.{take_more_set, length-take-le, length_push}
-use Rattle.std.proofs.lemmas.Bool.{cond-true, lt-ltb, le-ltb, le-leb}
+-- One task or one operation more, in a sheet's parts and in its content.
+use Rattle.std.proofs.Common.{◌≡◌, ℕ, ◌+◌, ◌<◌, ◌≤◌, true, ltb, List, [], ◌∷◌, ◌++◌, length, take, set, Some, Ok, sum_by, sym, ap, ◌∙◌, arith}
+use Rattle.std.proofs.lemmas.List.{take_more_set, length_push}
+use Rattle.std.proofs.lemmas.Bool.{cond-true, lt-ltb, le-leb}
 use Rattle.program.specs.Code.{on_last}
 use Rattle.program.specs.declared.Op.{Op}
 use Rattle.sheet.specs.Content.{Content}
 use Rattle.sheet.specs.Lines.{task_on, op_on}
-
-pub room : {X : Type 0} (xs : List X) (n : ℕ) → n < 64 → length xs ≡ 64 → ltb (length (take n xs)) 64 ≡ true
-room xs n h l = lt-ltb _ 64 (omega (arith, length-take-le n xs (omega arith)))
-
-pub no_room : {X : Type 0} (xs : List X) (n : ℕ) → 64 ≤ n → n ≤ 64 → length xs ≡ 64 → ltb (length (take n xs)) 64 ≡ false
-no_room xs n h g l = le-ltb _ 64 (omega (arith, length-take-le n xs (omega arith)))
-
-pub one_more : {X : Type 0} (xs : List X) (n : ℕ) (x : X) → n < 64 → length xs ≡ 64 → take n xs ++ (x ∷ []) ≡ take (n + 1) (set xs n x)
-one_more xs n x h l = sym (take_more_set xs n x (omega arith))
-
-length-on_last : {X : Type 0} (cs : List (List X)) (x : X) → length (on_last cs x) ≡ length cs
-length-on_last [] x = refl
-length-on_last (c ∷ []) x = refl
-length-on_last (c ∷ d ∷ ds) x = ap suc (length-on_last (d ∷ ds) x)
+use Rattle.sheet.proofs.LastTask.{length-on_last}
 
 module _ {V : Type 0} (s : Content V) where
   -- a task more: the program took it, and its calls owed stand in their place

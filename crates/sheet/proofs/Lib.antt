@@ -6,7 +6,6 @@ pub mod LineLoop
 pub mod LinesOut
 pub mod Overlaid
 pub mod LinesPut
-pub mod Lawfulness
 pub mod Overwritten
 pub mod Answered
 mod Rejoined

@@ -1,6 +1,6 @@
 -- One line: a sheet that takes it stays within its limits, and is written as before with that line at the end.
 use Rattle.std.proofs.Common.{◌≡◌, ℕ, ◌<◌, ◌≤◌, Bool, true, ◌&&◌, eqb, ltb, leb, List, [], ◌∷◌, ◌++◌, length, is_some, Some, None, Ok, Err, decimal, sum_by, Option, Result, unwrap_or, sym, refl, ap, ◌∙◌, subst, append_assoc, append-nil, arith}
-use Rattle.std.specs.List.{flat_map, AllByRecursion}
+use Rattle.std.specs.List.{flat_map, list_all, AllByRecursion}
 use Rattle.std.proofs.ByRecursion.{All-push}
 use Rattle.std.proofs.lemmas.List.{length_push, flat_map_more, nil_from_length}
 use Rattle.std.proofs.lemmas.List.Sums.{sum_by_push}
@@ -16,7 +16,7 @@ use Rattle.program.specs.declared.Op.{Op}
 use Rattle.sheet.specs.declared.parts.LineFault.TheVariants.{BadForm, PastBound, TooMany}
 use Rattle.sheet.specs.Content.{Content, with_cell, with_const, with_task, with_op}
 use Rattle.sheet.specs.Lines.{cell_head, const_head, task_head, where_some, op_line, cell_on, cell_in, const_on, const_in, task_on, op_on, op_in, judged}
-use Rattle.sheet.specs.Writing.{tasks_text, cell_text, const_text, written, every}
+use Rattle.sheet.specs.Writing.{tasks_text, cell_text, const_text, written}
 use Rattle.sheet.specs.Laws.{given}
 use Rattle.sheet.proofs.Answered.{same_answer, passed, failed}
 use Rattle.sheet.proofs.Frames.{frame_from_framed, framed-text}
@@ -29,9 +29,9 @@ use Rattle.sheet.proofs.Places.{LawfulKind, form_read}
 all_none : {X : Type 0} (P : X → Type 0) (xs : List X) → xs ≡ [] → AllByRecursion P xs
 all_none P xs e = subst (λ l. AllByRecursion P l) (sym e) tt
 
-every_push : {X : Type 0} (p : X → Bool) (xs : List X) (x : X) → every p xs ≡ true → p x ≡ true → every p (xs ++ (x ∷ [])) ≡ true
-every_push p [] x h e = and_from _ _ e refl
-every_push p (y ∷ xs) x h e = let q = and_parts (p y) (every p xs) h in and_from _ _ q.0 (every_push p xs x q.1 e)
+all_push : {X : Type 0} (p : X → Bool) (xs : List X) (x : X) → list_all p xs ≡ true → p x ≡ true → list_all p (xs ++ (x ∷ [])) ≡ true
+all_push p [] x h e = and_from _ _ e refl
+all_push p (y ∷ xs) x h e = let q = and_parts (p y) (list_all p xs) h in and_from _ _ q.0 (all_push p xs x q.1 e)
 
 module _ {V : Type 0} (form : V → Option (List ℕ)) where
   -- what a sheet keeps from line to line
@@ -43,8 +43,8 @@ module _ {V : Type 0} (form : V → Option (List ℕ)) where
     pub owed_each : length s.owed ≡ length s.code
     pub owed_small : AllByRecursion (λ n. n ≤ 255) s.owed
     pub ops_given : AllByRecursion (AllByRecursion (λ op. given (length s.cells) (length s.consts) op ≡ true)) s.code
-    pub cells-lawful : every (λ c. is_some (form c.value)) s.cells ≡ true
-    pub consts-lawful : every (λ v. is_some (form v)) s.consts ≡ true
+    pub cells-lawful : list_all (λ c. is_some (form c.value)) s.cells ≡ true
+    pub consts-lawful : list_all (λ v. is_some (form v)) s.consts ≡ true
 
   -- u is s with the line l. The text is told where no operation of u was cut down.
   pub record Added (s : Content V) (l : List ℕ) (u : Content V) : Type 0 where
@@ -64,7 +64,7 @@ module _ {V : Type 0} (form : V → Option (List ℕ)) where
           owed_each = k.owed_each;
           owed_small = k.owed_small;
           ops_given = all_none _ s.code no_code;
-          cells-lawful = every_push (λ c. is_some (form c.value)) s.cells (record { mode = m; value = v }) k.cells-lawful (ap is_some f);
+          cells-lawful = all_push (λ c. is_some (form c.value)) s.cells (record { mode = m; value = v }) k.cells-lawful (ap is_some f);
           consts-lawful = k.consts-lawful;
         };
         less = λ h. h;
@@ -88,7 +88,7 @@ module _ {V : Type 0} (form : V → Option (List ℕ)) where
           owed_small = k.owed_small;
           ops_given = all_none _ s.code no_code;
           cells-lawful = k.cells-lawful;
-          consts-lawful = every_push (λ v. is_some (form v)) s.consts v k.consts-lawful (ap is_some f);
+          consts-lawful = all_push (λ v. is_some (form v)) s.consts v k.consts-lawful (ap is_some f);
         };
         less = λ h. h;
         text = λ k h. ap (λ l. flat_map (cell_text form) s.cells ++ (flat_map (const_text form) (s.consts ++ (v ∷ [])) ++ l)) nil

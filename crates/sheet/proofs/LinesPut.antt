@@ -1,9 +1,13 @@
 -- Lines put one after another.
-use Rattle.std.proofs.Common.{◌≡◌, ℕ, zero, suc, ◌+◌, ◌<◌, ◌≤◌, List, [], ◌∷◌, ◌++◌, length, get_or, take, sym, refl, ap, ◌∙◌, subst, append_assoc, append-nil, add-one, arith}
+use Rattle.std.proofs.Common.{◌≡◌, ℕ, zero, suc, ◌+◌, ◌<◌, List, [], ◌∷◌, ◌++◌, length, get_or, take, sym, refl, ap, ◌∙◌, append_assoc, append-nil, add-one, arith}
 use Rattle.std.specs.List.{flat_map}
-use Rattle.std.proofs.lemmas.List.{take_more, take_all, flat_map_more, length-append}
+use Rattle.std.proofs.lemmas.List.{take_more, flat_map_more, length-append}
 use Rattle.program.specs.declared.Op.{Op}
-use Rattle.sheet.specs.Output.{over}
+use denote.Ref.{Bor}
+use Rattle.std.specs.Fn.{Shared}
+use Rattle.text.specs.Line.{spelt}
+use Rattle.text.specs.declared.output.Line.{Line}
+use Rattle.sheet.specs.Output.{over, Spells}
 use Rattle.sheet.specs.Writing.{task_text, op_text, tasks_text}
 use Rattle.sheet.proofs.Overlaid.{over_append}
 
@@ -20,16 +24,14 @@ put_more at a b c start out next end after p e f is = record {
   ends = omega (arith, p.ends, length-append a b, ap length is);
 }
 
-pub put_none : (at : ℕ) (start : List ℕ) → Put at [] start start at
-put_none at start = record { laid = refl; ends = omega arith }
-
-pub put_all : {X : Type 0} (f : X → List ℕ) (at : ℕ) (xs : List X) (i : ℕ) (start out : List ℕ) (end : ℕ) → length xs ≤ i → Put at (flat_map f (take i xs)) start out end → Put at (flat_map f xs) start out end
-put_all f at xs i start out end h p = subst (λ l. Put at (flat_map f l) start out end) (take_all i xs h) p
-
 -- the line of one more element
 pub line_put : {X : Type 0} (f : X → List ℕ) (at : ℕ) (xs : List X) (i : ℕ) (x : X) (line start out next : List ℕ) (end after : ℕ) → i < length xs → x ≡ get_or xs i x → line ≡ f x → Put at (flat_map f (take i xs)) start out end → next ≡ over end line out → after ≡ end + length line → Put at (flat_map f (take (i + 1) xs)) start next after
 line_put f at xs i x line start out next end after h e is p laid ends =
     put_more at (flat_map f (take i xs)) line (flat_map f (take (i + 1) xs)) start out next end after p laid ends (ap (flat_map f) (take_more xs i x h) ∙ (sym (flat_map_more f [] (take i xs) (get_or xs i x)) ∙ ap (λ l. flat_map f (take i xs) ++ l) (ap f (sym e) ∙ sym is)))
+
+-- the line of a call is the item's text
+pub spelt_at : {F T : Type 0} (g : Shared F (Bor T × Unit {0}) Line) (f : F) (text : T → List ℕ) → Spells g f text → (p : Bor T) (l : Line) → g.post f (p, tt) l → spelt l ≡ text p.now
+spelt_at g f text h p l met = h p.now l (record { shown = p; shows = refl; says = record { met = met } })
 
 pub tasks_next : (os : List ℕ) (cs : List (List Op)) (t : ℕ) → t < length os → t < length cs → tasks_text (take (suc t) os) (take (suc t) cs) ≡ tasks_text (take t os) (take t cs) ++ (task_text (get_or os t 0) ++ flat_map op_text (get_or cs t []))
 tasks_next [] cs t h g = absurd (omega arith)
@@ -50,9 +52,6 @@ task_put at os cs t line start out mid next end e1 e2 h g is p laid1 ends1 laid2
     let one = put_more at was line (was ++ line) start out mid end e1 p laid1 ends1 refl in
     put_more at (was ++ line) ops _ start mid next e1 e2 one laid2 ends2
     ((λ i. tasks_text (take (add-one t i) os) (take (add-one t i) cs)) ∙ (tasks_next os cs t h g ∙ (ap (λ l. was ++ (l ++ ops)) (sym is) ∙ sym (append_assoc was line ops))))
-
-pub tasks_put : (at : ℕ) (os : List ℕ) (cs : List (List Op)) (t : ℕ) (start out : List ℕ) (end : ℕ) → length os ≤ t → length cs ≤ t → Put at (tasks_text (take t os) (take t cs)) start out end → Put at (tasks_text os cs) start out end
-tasks_put at os cs t start out end h g p = subst (λ l. Put at l start out end) (λ i. tasks_text (take_all t os h i) (take_all t cs g i)) p
 
 -- three texts one after another, from the start on
 pub all_put : (a b c start o1 o2 o3 : List ℕ) (e1 e2 e3 : ℕ) → o1 ≡ over 0 a start → e1 ≡ 0 + length a → o2 ≡ over e1 b o1 → e2 ≡ e1 + length b → o3 ≡ over e2 c o2 → e3 ≡ e2 + length c → Put 0 (a ++ (b ++ c)) start o3 e3

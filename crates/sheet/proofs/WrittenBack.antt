@@ -1,6 +1,6 @@
 -- All lines: what is written of a sound sheet is read as the same sheet.
 use Rattle.std.proofs.Common.{◌≡◌, ℕ, ◌+◌, ◌<◌, ◌≤◌, true, ltb, List, [], ◌∷◌, ◌++◌, length, is_some, Some, None, Ok, Err, decimal, sum_by, Option, Result, unwrap_or, sym, refl, ap, ◌∙◌, append_assoc, append-nil, arith, lit<}
-use Rattle.std.specs.List.{flat_map, AllByRecursion}
+use Rattle.std.specs.List.{flat_map, list_all, AllByRecursion}
 use Rattle.std.proofs.lemmas.List.{length_push}
 use Rattle.std.proofs.lemmas.List.Sums.{sum_by_push, sum_by-cons}
 use Rattle.std.proofs.lemmas.Bool.{cond-false, and_parts, le-ltb}
@@ -16,7 +16,7 @@ use Rattle.sheet.specs.Content.{Content, nothing, with_cell, with_const, with_ta
 use Rattle.sheet.specs.Operations.{numbers}
 use Rattle.sheet.specs.Lines.{cell_head, const_head, task_head, judged}
 use Rattle.sheet.specs.Reading.{first_task, landed, ended, settled, read_lines}
-use Rattle.sheet.specs.Writing.{task_text, op_text, tasks_text, cell_text, const_text, written, every}
+use Rattle.sheet.specs.Writing.{task_text, op_text, tasks_text, cell_text, const_text, written}
 use Rattle.sheet.specs.Laws.{given, Sound, WrittenReadsBack}
 use Rattle.sheet.proofs.Rejoined.{Without, cut_some, cut_front, without_from_lacks}
 use Rattle.sheet.proofs.Frames.{framed-text}
@@ -44,7 +44,7 @@ module _ {V : Type 0} (form : V → Option (List ℕ)) (reads : List Tok → Res
       ap (λ x. read_lines reads n s (cut 10 x)) (ap (λ x. x ++ bs) is ∙ append_assoc l (10 ∷ []) bs)
       ∙ (ap (read_lines reads n s) (cut_front 10 l bs clear) ∙ line_on n s u l (cut 10 bs) (cut_some 10 bs) e)
 
-  cells_on : (cs : List (Cell V)) (n : ℕ) (s w : Content V) (bs : List ℕ) → s.consts ≡ [] → s.code ≡ [] → length s.cells + length cs ≤ 64 → every (λ c. is_some (form c.value)) cs ≡ true → ((m : ℕ) → read_lines reads m (record { cells = s.cells ++ cs; consts = s.consts; owed = s.owed; code = s.code }) (cut 10 bs) ≡ Ok w) → read_lines reads n s (cut 10 (flat_map (cell_text form) cs ++ bs)) ≡ Ok w
+  cells_on : (cs : List (Cell V)) (n : ℕ) (s w : Content V) (bs : List ℕ) → s.consts ≡ [] → s.code ≡ [] → length s.cells + length cs ≤ 64 → list_all (λ c. is_some (form c.value)) cs ≡ true → ((m : ℕ) → read_lines reads m (record { cells = s.cells ++ cs; consts = s.consts; owed = s.owed; code = s.code }) (cut 10 bs) ≡ Ok w) → read_lines reads n s (cut 10 (flat_map (cell_text form) cs ++ bs)) ≡ Ok w
   cells_on [] n s w bs a b room ok go = ap (λ l. read_lines reads n (record { cells = l; consts = s.consts; owed = s.owed; code = s.code }) (cut 10 bs)) (sym (append-nil s.cells)) ∙ go n
   cells_on (c ∷ cs) n s w bs a b room ok go =
       let p = and_parts (is_some (form c.value)) _ ok in
@@ -53,7 +53,7 @@ module _ {V : Type 0} (form : V → Option (List ℕ)) (reads : List Tok → Res
       ∙ (text_on n s (with_cell s c.mode c.value) (cell_text form c) (cell_head c.mode ++ (f.0 ++ (41 ∷ []))) (flat_map (cell_text form) cs ++ bs) (ap (λ o. cell_head c.mode ++ (unwrap_or o [] ++ (41 ∷ 10 ∷ []))) f.1 ∙ framed-text (cell_head c.mode) f.0) (framed_without (cell_head c.mode) f.0 (head_without c.mode) (bracketed_without f.0 (law.bracketed c.value f.0 f.1))) (cell-judged law s c.mode c.value f.0 a b (omega arith) f.1)
       ∙ cells_on cs (n + 1) (with_cell s c.mode c.value) w bs a b (omega (arith, length_push s.cells c)) p.1 (λ m. ap (λ l. read_lines reads m (record { cells = l; consts = s.consts; owed = s.owed; code = s.code }) (cut 10 bs)) (append_assoc s.cells (c ∷ []) cs) ∙ go m))
 
-  consts_on : (vs : List V) (n : ℕ) (s w : Content V) (bs : List ℕ) → s.code ≡ [] → length s.consts + length vs ≤ 64 → every (λ v. is_some (form v)) vs ≡ true → ((m : ℕ) → read_lines reads m (record { cells = s.cells; consts = s.consts ++ vs; owed = s.owed; code = s.code }) (cut 10 bs) ≡ Ok w) → read_lines reads n s (cut 10 (flat_map (const_text form) vs ++ bs)) ≡ Ok w
+  consts_on : (vs : List V) (n : ℕ) (s w : Content V) (bs : List ℕ) → s.code ≡ [] → length s.consts + length vs ≤ 64 → list_all (λ v. is_some (form v)) vs ≡ true → ((m : ℕ) → read_lines reads m (record { cells = s.cells; consts = s.consts ++ vs; owed = s.owed; code = s.code }) (cut 10 bs) ≡ Ok w) → read_lines reads n s (cut 10 (flat_map (const_text form) vs ++ bs)) ≡ Ok w
   consts_on [] n s w bs b room ok go = ap (λ l. read_lines reads n (record { cells = s.cells; consts = l; owed = s.owed; code = s.code }) (cut 10 bs)) (sym (append-nil s.consts)) ∙ go n
   consts_on (v ∷ vs) n s w bs b room ok go =
       let p = and_parts (is_some (form v)) _ ok in
@@ -93,7 +93,7 @@ module _ {V : Type 0} (form : V → Option (List ℕ)) (reads : List Tok → Res
   pub written-reads-back : WrittenReadsBack form reads
   written-reads-back s h ok =
       let whole = all_whole (length s.code) (first_task s) h.few_tasks s.code h.few_ops h.jumps_land in
-      let p = and_parts (every (λ c. is_some (form c.value)) s.cells) _ ok in
+      let p = and_parts (list_all (λ c. is_some (form c.value)) s.cells) _ ok in
       cond-false (ltb 65536 (length (written form s))) _ _ (le-ltb 65536 _ (written-short law s h whole))
       ∙ cells_on s.cells 1 nothing s (flat_map (const_text form) s.consts ++ tasks_text s.owed s.code) refl refl (omega (arith, h.few_cells)) p.0 (λ m.
       consts_on s.consts m (record { cells = s.cells; consts = []; owed = []; code = [] }) s (tasks_text s.owed s.code) refl (omega (arith, h.few_consts)) p.1 (λ i.

@@ -1,11 +1,11 @@
 pub mod Content
 pub mod Operations
 pub mod Lines
-pub mod Numbers
 pub mod Ends
 pub mod Reading
 pub mod Writing
 pub mod Output
+pub mod Filled
 pub mod Sheets
 pub mod Refusals
 pub mod Laws

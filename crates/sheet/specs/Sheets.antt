@@ -11,7 +11,7 @@ abbrev pub of_parts : {V : Type 0} → List (Cell V) → ℕ → List V → ℕ 
 of_parts cells n consts m owed code = record { cells = take n cells; consts = take m consts; owed = take (length code) owed; code = code }
 
 abbrev pub content : {V : Type 0} → Sheet V → Content V
-content s = of_parts s.cells s.cell_count s.consts s.const_count s.owed (code s.program)
+content s = of_parts s.cells.items s.cells.len s.consts.items s.consts.len s.owed (code s.program)
 
 -- the answer is the one that is due, and what the sheet holds then is too
 abbrev pub Answers : {A E V : Type 0} → Result A E → Result (Content V) E → Content V → Type 0

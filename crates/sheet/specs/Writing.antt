@@ -1,6 +1,6 @@
 -- The bytes of a sheet: one bracketed form a line, single spaces, a line feed at each end.
-use Rattle.std.specs.Prelude.{ℕ, Bool, true, cond, ◌&&◌, List, [], ◌∷◌, ◌++◌, length, drop, is_some, Ok, Err, codes, decimal, Option, Result, nat_le}
-use Rattle.std.specs.List.{flat_map}
+use Rattle.std.specs.Prelude.{ℕ, Bool, cond, ◌&&◌, List, [], ◌∷◌, ◌++◌, length, drop, is_some, Ok, Err, codes, decimal, Option, Result, nat_le}
+use Rattle.std.specs.List.{flat_map, list_all}
 use Rattle.std.specs.Option.{unwrap_or}
 use Rattle.program.specs.declared.Op.{Op}
 use Rattle.sheet.specs.declared.parts.Cell.{Cell}
@@ -35,10 +35,6 @@ tasks_text [] cs = []
 tasks_text (o ∷ os) [] = []
 tasks_text (o ∷ os) (c ∷ cs) = task_text o ++ (flat_map op_text c ++ tasks_text os cs)
 
-abbrev pub every : {X : Type 0} → (X → Bool) → List X → Bool
-every p [] = true
-every p (x ∷ xs) = p x && every p xs
-
 module _ {V : Type 0} (form : V → Option (List ℕ)) where
   abbrev pub cell_text : Cell V → List ℕ
   cell_text c = value_text (cell_head c.mode) (unwrap_or (form c.value) [])
@@ -51,7 +47,7 @@ module _ {V : Type 0} (form : V → Option (List ℕ)) where
 
   -- each value is one that a sheet may hold
   abbrev pub lawful : Content V → Bool
-  lawful s = every (λ c. is_some (form c.value)) s.cells && every (λ v. is_some (form v)) s.consts
+  lawful s = list_all (λ c. is_some (form c.value)) s.cells && list_all (λ v. is_some (form v)) s.consts
 
   -- what writing into an output slice answers
   abbrev pub write_answer : Content V → List ℕ → Result ℕ Refusal

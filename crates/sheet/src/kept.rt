@@ -1,5 +1,6 @@
-ghost use Rattle.std.specs.Prelude.{◌≡◌, ◌≤◌, length};
+ghost use Rattle.std.specs.Prelude.{◌≡◌, length};
 
+use crate::filled::Filled;
 use crate::parts::Cell;
 use program::Program;
 
@@ -10,13 +11,12 @@ mod reading;
 mod writing;
 
 // A hand-over sheet: what people fill in to set a station up, and what a station is written back to.
+// kept: `owed` beside the program: as many places count as it has tasks.
 #[derive(Drop)]
 pub struct Sheet<K> {
-    cells: [Cell<K>; 64],
-    cell_count: usize,
-    consts: [K; 64],
-    const_count: usize,
+    cells: Filled<Cell<K>, 64>,
+    consts: Filled<K, 64>,
     owed: [u8; 16],
     program: Program,
-    ghost sizes: { (length cells ≡ 64) × (cell_count ≤ 64) × (length consts ≡ 64) × (const_count ≤ 64) × (length owed ≡ 16) },
+    ghost sizes: { length owed ≡ 16 },
 }

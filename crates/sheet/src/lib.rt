@@ -1,6 +1,7 @@
 // Hand-over sheets: reading them from bytes and writing them back.
 #![tactic(auto)]
 
+mod filled;
 mod kept;
 mod laws;
 mod lines_out;

@@ -12,10 +12,7 @@ use value::Kind;
 fn form_of<K: Kind>(value: K) -> Line
     ensures { spelt result ≡ unwrap_or (K.Kind.form value) [] }
 {
-    match value.spell() {
-        Some(form) => form,
-        None => Line::new(),
-    }
+    value.spell().unwrap_or_else(Line::new)
 }
 
 // Closes the bracket and the line.
@@ -26,6 +23,7 @@ fn close(line: &mut Line)
 }
 
 // The line of a value, after the text in front of it.
+#[inline]
 fn value_line<K: Kind>(head: &[u8], value: K) -> Line
     ensures { length head.now ≤ 8 → spelt result ≡ value_text head.now (unwrap_or (K.Kind.form value) []) }
 {
@@ -49,10 +47,10 @@ impl<K: Kind> Cell<K> {
     }
 }
 
-pub(crate) fn const_line<K: Kind>(value: K) -> Line
-    ensures { spelt result ≡ const_text K.Kind.form value }
+pub(crate) fn const_line<K: Kind>(value: &K) -> Line
+    ensures { spelt result ≡ const_text K.Kind.form value.now }
 {
-    value_line(b"(const ", value)
+    value_line(b"(const ", *value)
 }
 
 pub(crate) fn task_line(owed: u8) -> Line
@@ -66,6 +64,7 @@ pub(crate) fn task_line(owed: u8) -> Line
 }
 
 // A letter and up to four numbers.
+#[inline]
 fn words(letter: u8, numbers: &[u16]) -> Line
     ensures { length numbers.now ≤ 4 → spelt result ≡ op_words letter numbers.now }
 {
@@ -80,10 +79,11 @@ fn words(letter: u8, numbers: &[u16]) -> Line
     line
 }
 
-pub(crate) fn op_line_of(op: Op) -> Line
-    ensures { spelt result ≡ op_text op }
+#[inline]
+pub(crate) fn op_line_of(op: &Op) -> Line
+    ensures { spelt result ≡ op_text op.now }
 {
-    match op {
+    match *op {
         Op::Finish => words(b'f', &[]),
         Op::Read { to, cell } => words(b'r', &[u16::from(to), u16::from(cell)]),
         Op::Write { cell, from } => words(b'w', &[u16::from(cell), u16::from(from)]),
@@ -97,7 +97,7 @@ pub(crate) fn op_line_of(op: Op) -> Line
             words(
                 b'a',
                 &[
-                    u16::from(operation.number()),
+                    u16::from(u8::from(operation)),
                     u16::from(to),
                     u16::from(left),
                     u16::from(right),

@@ -4,27 +4,30 @@ ghost use Rattle.sheet.specs.Refusals.{notice, told as notice_of, notice_text};
 use crate::parts::{LineFault, Notice, Refusal};
 use std::fmt;
 
-fn on_sheet(number: u8, line: usize) -> Notice
-    ensures { result ≡ notice number 1 line 0 0 }
-{
-    Notice {
-        number,
-        layer: 1,
-        first: line,
-        second: 0,
-        cause: 0,
+impl Notice {
+    fn of(layer: u8, number: u8, first: usize) -> Notice
+        ensures { result ≡ notice number layer first 0 0 }
+    {
+        Notice {
+            number,
+            layer,
+            first,
+            second: 0,
+            cause: 0,
+        }
     }
-}
 
-fn on_station(number: u8) -> Notice
-    ensures { result ≡ notice number 2 0 0 0 }
-{
-    Notice {
-        number,
-        layer: 2,
-        first: 0,
-        second: 0,
-        cause: 0,
+    fn on_sheet(number: u8, line: usize) -> Notice
+        ensures { result ≡ notice number 1 line 0 0 }
+    {
+        Notice::of(1, number, line)
+    }
+
+    // A notice of the station, with one place.
+    pub fn on_station(number: u8, first: usize) -> Notice
+        ensures { result ≡ notice number 2 first 0 0 }
+    {
+        Notice::of(2, number, first)
     }
 }
 
@@ -34,23 +37,23 @@ impl Refusal {
         ensures { result ≡ notice_of self }
     {
         match self {
-            Refusal::TooLong => on_sheet(2, 0),
+            Refusal::TooLong => Notice::on_sheet(2, 0),
             Refusal::Line {
                 fault: LineFault::BadForm,
                 line,
-            } => on_sheet(3, line),
+            } => Notice::on_sheet(3, line),
             Refusal::Line {
                 fault: LineFault::PastBound,
                 line,
-            } => on_sheet(4, line),
+            } => Notice::on_sheet(4, line),
             Refusal::Line {
                 fault: LineFault::TooMany,
                 line,
-            } => on_sheet(5, line),
-            Refusal::OpenTask { line } => on_sheet(6, line),
-            Refusal::StrayTarget { line } => on_sheet(7, line),
-            Refusal::Unlawful => on_station(8),
-            Refusal::OutputShort => on_station(26),
+            } => Notice::on_sheet(5, line),
+            Refusal::OpenTask { line } => Notice::on_sheet(6, line),
+            Refusal::StrayTarget { line } => Notice::on_sheet(7, line),
+            Refusal::Unlawful => Notice::on_station(8, 0),
+            Refusal::OutputShort => Notice::on_station(26, 0),
         }
     }
 }

@@ -1,28 +1,17 @@
-ghost use Rattle.std.specs.Prelude.{◌≡◌, ◌≤◌, min, length, if◌then◌else◌, Ok, Err, nat_le, nat_lt};
+ghost use Rattle.std.specs.Prelude.{◌≡◌, ℕ, ◌<◌, ◌≤◌, min, List, length, if◌then◌else◌, Some, Ok, Err, MatchOption, nat_le, nat_lt};
 ghost use Rattle.std.specs.Option.{ok_or};
 ghost use Rattle.text.specs.Cut.{cut};
 ghost use Rattle.value.specs.Codes.{operation_at};
 ghost use Rattle.value.specs.declared.codes.Fault.TheVariants.{Bound};
 ghost use Rattle.sheet.specs.Lines.{all_numbers, op_line as written_op};
-ghost use Rattle.sheet.specs.Numbers.{Taken};
 ghost use Rattle.sheet.specs.Operations.{applied, target, started, operation as operation_of};
 
+use arrayvec::ArrayVec;
 use program::Op;
-use text::{before, framed, number};
+use text::{framed, number};
 use value::{Fault, Operation};
 
-// A register of a task.
-fn register(n: u64) -> Result<u8, Fault>
-    ensures { result ≡ (if nat_le n 3 then Ok n else Err Bound) }
-{
-    if n <= 3 {
-        Ok(n as u8)
-    } else {
-        Err(Fault::Bound)
-    }
-}
-
-// A cell or a constant that is given.
+// A number below a count: a cell or a constant that is given.
 fn below(n: u64, count: usize) -> Result<u8, Fault>
     requires { count ≤ 64 }
     ensures { result ≡ (if nat_lt n count then Ok n else Err Bound) }
@@ -34,28 +23,32 @@ fn below(n: u64, count: usize) -> Result<u8, Fault>
     }
 }
 
+// One of the four registers of a task.
+fn register(n: u64) -> Result<u8, Fault>
+    ensures { result ≡ (if nat_le n 3 then Ok n else Err Bound) }
+{
+    below(n, 4)
+}
+
 // A jump's target: all that lie past every task are one.
 fn place(n: u64) -> u16
     ensures { result ≡ target n }
 {
-    n.min(65535) as u16
+    u16::try_from(n).unwrap_or(u16::MAX)
 }
 
 // A task to be started, likewise.
 fn task(n: u64) -> u8
     ensures { result ≡ started n }
 {
-    n.min(255) as u8
+    u8::try_from(n).unwrap_or(u8::MAX)
 }
 
 fn apply(o: u64, d: u64, i: u64, j: u64) -> Result<Op, Fault>
     ensures { result ≡ applied (operation_at o) d i j }
 {
-    let Some(operation) = Operation::from_number(o) else {
-        return Err(Fault::Bound);
-    };
     Ok(Op::Apply {
-        operation,
+        operation: Operation::try_from(o)?,
         to: register(d)?,
         left: register(i)?,
         right: register(j)?,
@@ -105,27 +98,18 @@ fn operation(letter: char, args: &[u64], cells: usize, consts: usize) -> Result<
 }
 
 // The numbers between single spaces, up to four; no operation has more.
-fn numbers_in(bytes: &[u8], out: &mut [u64; 4]) -> Option<usize>
-    ensures sized { length out.new ≡ 4 }
-    ensures taken { Taken result out.new (all_numbers (cut 32 bytes.now)) }
+fn numbers_in(bytes: &[u8]) -> Option<ArrayVec<u64, 4>>
+    ensures { MatchOption result ((ns : List ℕ) → all_numbers (cut 32 bytes.now) ≡ Some ns → 4 < length ns) (λ r. all_numbers (cut 32 bytes.now) ≡ Some r.items) }
 {
-    let mut rest = bytes;
-    let mut k = 0;
-    loop {
-        if k >= 4 {
+    let mut numbers = ArrayVec::new();
+    for part in bytes.split(|b| *b == b' ') {
+        let n = number(part)?;
+        if numbers.is_full() {
             return None;
         }
-        let n = before(b' ', rest);
-        let Some(x) = number(&rest[0..n]) else {
-            return None;
-        };
-        out[k] = x;
-        k += 1;
-        if n == rest.len() {
-            return Some(k);
-        }
-        rest = &rest[n + 1..];
+        numbers.push(n);
     }
+    Some(numbers)
 }
 
 // The operation that a line writes.
@@ -134,20 +118,12 @@ pub(crate) fn op_line(line: &[u8], cells: usize, consts: usize) -> Result<Op, Fa
     requires few_consts { consts ≤ 64 }
     ensures { result ≡ written_op cells consts line.now }
 {
-    let Some(inside) = framed(line, b"(") else {
-        return Err(Fault::Form);
-    };
-    let n = before(b' ', inside);
-    if n != 1 {
-        return Err(Fault::Form);
-    }
-    let letter = inside[0] as char;
-    if inside.len() == 1 {
-        return operation(letter, &[], cells, consts);
-    }
-    let mut args = [0; 4];
-    match numbers_in(&inside[2..], &mut args) {
-        Some(k) => operation(letter, &args[0..k], cells, consts),
-        None => Err(Fault::Form),
+    match framed(line, b"(") {
+        Some([letter]) => operation(*letter as char, &[], cells, consts),
+        Some([letter, b' ', rest @ ..]) => {
+            let args = numbers_in(rest).ok_or(Fault::Form)?;
+            operation(*letter as char, args.as_slice(), cells, consts)
+        }
+        _ => Err(Fault::Form),
     }
 }

@@ -1,7 +1,8 @@
 ghost use Rattle.std.specs.Prelude.{◌≡◌};
+ghost use Rattle.sheet.specs.declared.parts.LineFault.TheVariants.{TooMany};
 ghost use Rattle.sheet.specs.Lines.{line_fault};
 
-use program::Mode;
+use program::{Full, Mode};
 use value::Fault;
 
 // A cell: which side it is on, and its value.
@@ -30,7 +31,16 @@ impl From<Fault> for LineFault {
     }
 }
 
+impl From<Full> for LineFault {
+    ghost from_gives = { λ _ r. r ≡ TooMany };
+
+    fn from(_full: Full) -> LineFault {
+        LineFault::TooMany
+    }
+}
+
 // What a refusal tells: its number, the layer that it comes from, two places and a cause.
+// kept: numbers, since a notice is what is printed; what is refused and why are enums.
 #[derive(Clone, Copy)]
 pub struct Notice {
     pub number: u8,

@@ -1,5 +1,7 @@
-use crate::texts::{Values, check_refused, repeated};
+use crate::texts::{check_refused, repeated};
+use sheet::Sheet;
 use std::test::Fail;
+use value::Whole;
 
 // A head, a part so many times and a tail, with the number and line of the refusal; 0 and 0 where it is read.
 struct Case(&'static str, usize, &'static str, &'static str, u8, usize);
@@ -49,13 +51,8 @@ const CASES: [Case; 32] = [
 fn limits(rt: HostRuntime) -> Result<(), Fail> {
     for Case(head, times, part, tail, number, line) in &CASES {
         let text = repeated(rt.alloc(), *head, *times, *part, *tail)?;
-        check_refused(
-            &rt,
-            Values::Wholes,
-            text.as_slice(),
-            (*number, *line),
-            *tail,
-        );
+        let refusal = Sheet::<Whole>::read(text.as_slice()).err();
+        check_refused(&rt, refusal, *number, *line, *tail);
     }
     Ok(())
 }

@@ -1,7 +1,9 @@
-use crate::texts::{Values, check_refused, repeated};
+use crate::texts::{check_refused, repeated};
+use sheet::{Refusal, Sheet};
 use std::alloc::Global;
 use std::process::Abort;
 use std::test::Fail;
+use value::{Reading, Whole};
 
 // Parts between commas, each tried on its own, and the number of their refusal; 0 where they are read.
 struct Parts(&'static str, u8);
@@ -49,33 +51,31 @@ const OPERATIONS: [Parts; 14] = [
 ];
 
 // Where a part is tried: between a head and a tail, so that it stands on the line.
-struct Frame(Values, &'static str, &'static str, usize);
+struct Frame(&'static str, &'static str, usize);
 
-const CELL: Frame = Frame(Values::Wholes, "(cell p ", ")\n", 1);
+const CELL: Frame = Frame("(cell p ", ")\n", 1);
 
-const CONST: Frame = Frame(Values::Readings, "(cell p (e))\n(const ", ")\n", 2);
+const CONST: Frame = Frame("(cell p (e))\n(const ", ")\n", 2);
 
-const TASK: Frame = Frame(Values::Wholes, "(task ", ")\n(f)\n", 1);
+const TASK: Frame = Frame("(task ", ")\n(f)\n", 1);
 
-const IN_TASK: Frame = Frame(
-    Values::Wholes,
-    "(cell p (n 0))\n(const (n 0))\n(task 0)\n",
-    "\n(f)\n",
-    4,
-);
+const IN_TASK: Frame = Frame("(cell p (n 0))\n(const (n 0))\n(task 0)\n", "\n(f)\n", 4);
 
 // Each part is told as its row says.
-fn try_each(rt: &impl Abort, heap: Global, frame: &Frame, cases: &[Parts]) -> Result<(), Fail> {
-    let Frame(values, head, tail, line) = frame;
+fn try_each<F: Fn(&[u8]) -> Option<Refusal>>(
+    rt: &impl Abort,
+    heap: Global,
+    frame: &Frame,
+    cases: &[Parts],
+    refused: F,
+) -> Result<(), Fail>
+    requires { F.IsAlwaysCallable refused }
+{
+    let Frame(head, tail, line) = frame;
     for Parts(parts, number) in cases {
-        let told = if *number == 0 {
-            (0, 0)
-        } else {
-            (*number, *line)
-        };
         for part in parts.split(',') {
             let text = repeated(heap, head, 1, part, tail)?;
-            check_refused(rt, *values, text.as_slice(), told, part);
+            check_refused(rt, refused(text.as_slice()), *number, *line, part);
         }
     }
     Ok(())
@@ -83,8 +83,11 @@ fn try_each(rt: &impl Abort, heap: Global, frame: &Frame, cases: &[Parts]) -> Re
 
 #[test]
 fn lines(rt: HostRuntime) -> Result<(), Fail> {
-    try_each(&rt, rt.alloc(), &CELL, &WHOLES)?;
-    try_each(&rt, rt.alloc(), &CONST, &READINGS)?;
-    try_each(&rt, rt.alloc(), &TASK, &OWED)?;
-    try_each(&rt, rt.alloc(), &IN_TASK, &OPERATIONS)
+    let wholes = |text: &[u8]| Sheet::<Whole>::read(text).err();
+    try_each(&rt, rt.alloc(), &CELL, &WHOLES, wholes)?;
+    try_each(&rt, rt.alloc(), &CONST, &READINGS, |text| {
+        Sheet::<Reading>::read(text).err()
+    })?;
+    try_each(&rt, rt.alloc(), &TASK, &OWED, wholes)?;
+    try_each(&rt, rt.alloc(), &IN_TASK, &OPERATIONS, wholes)
 }

@@ -1,7 +1,9 @@
-use crate::texts::{Values, repeated, rewritten};
+use crate::texts::repeated;
+use sheet::{Refusal, Sheet};
 use std::alloc::Global;
 use std::process::Abort;
 use std::test::Fail;
+use value::{Reading, Whole};
 
 // Both modes, the least and the largest number, and all thirteen operations.
 const WHOLES: &str = "(cell p (n -2147483648))\n(cell u (n 0))\n(const (n 2147483647))\n\
@@ -12,19 +14,23 @@ const READINGS: &str =
     "(cell p (e))\n(cell u (a 43b40000))\n(const (n -1))\n(const (a 00000000))\n";
 
 // The text comes back in front of what the output held; an output one byte too short stays as it was.
-fn comes_back(rt: &impl Abort, heap: Global, values: Values, text: &str) -> Result<(), Fail> {
+fn comes_back<F: Fn(&[u8], &mut [u8]) -> Result<usize, Refusal>>(
+    rt: &impl Abort,
+    heap: Global,
+    text: &str,
+    rewrite: F,
+) -> Result<(), Fail>
+    requires { F.IsAlwaysCallable rewrite }
+{
     let n = text.len();
     assert!(rt; 0 < n && n < 1000);
     for room in n - 1..n + 4 {
         let mut out = repeated(heap, "", room, "#", "")?;
-        let answer = match rewritten(values, text.as_bytes(), out.as_mut_slice()) {
-            Ok(length) => (0, length),
-            Err(refusal) => (refusal.told().number, 0),
-        };
+        let answer = rewrite(text.as_bytes(), out.as_mut_slice()).map_err(|e| e.told().number);
         let (told, front, rest) = if room < n {
-            ((26, 0), "", room)
+            (Err(26), "", room)
         } else {
-            ((0, n), text, room - n)
+            (Ok(n), text, room - n)
         };
         assert_eq!(rt; answer, told);
         assert_eq!(rt; out, repeated(heap, front, rest, "#", "")?);
@@ -34,6 +40,10 @@ fn comes_back(rt: &impl Abort, heap: Global, values: Values, text: &str) -> Resu
 
 #[test]
 fn round_trips(rt: HostRuntime) -> Result<(), Fail> {
-    comes_back(&rt, rt.alloc(), Values::Wholes, WHOLES)?;
-    comes_back(&rt, rt.alloc(), Values::Readings, READINGS)
+    comes_back(&rt, rt.alloc(), WHOLES, |text, out| {
+        Sheet::<Whole>::read(text)?.write(out)
+    })?;
+    comes_back(&rt, rt.alloc(), READINGS, |text, out| {
+        Sheet::<Reading>::read(text)?.write(out)
+    })
 }

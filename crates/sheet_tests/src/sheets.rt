@@ -1,4 +1,6 @@
-use crate::texts::{Values, check_refused};
+use crate::texts::check_refused;
+use sheet::Sheet;
+use value::Whole;
 
 // A sheet of whole numbers, and the number and line of its refusal; 0 and 0 where it is read.
 struct Case(&'static str, u8, usize);
@@ -52,12 +54,7 @@ const CASES: [Case; 38] = [
 #[test]
 fn sheets(rt: HostRuntime) {
     for Case(text, number, line) in &CASES {
-        check_refused(
-            &rt,
-            Values::Wholes,
-            text.as_bytes(),
-            (*number, *line),
-            *text,
-        );
+        let refusal = Sheet::<Whole>::read(text.as_bytes()).err();
+        check_refused(&rt, refusal, *number, *line, *text);
     }
 }

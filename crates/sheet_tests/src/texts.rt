@@ -1,41 +1,21 @@
-use sheet::{Refusal, Sheet};
+use sheet::Refusal;
 use std::alloc::{AllocError, Global};
 use std::process::Abort;
-use value::{Kind, Reading, Whole};
 
-// What the values of a sheet are.
-#[derive(Clone, Copy)]
-pub enum Values {
-    Wholes,
-    Readings,
-}
-
-// The text is read, and the sheet written into the output.
-pub fn rewritten(values: Values, text: &[u8], out: &mut [u8]) -> Result<usize, Refusal> {
-    match values {
-        Values::Wholes => Sheet::<Whole>::read(text)?.write(out),
-        Values::Readings => Sheet::<Reading>::read(text)?.write(out),
-    }
-}
-
-// The number and the line that the text is refused with; 0 and 0 where it is read.
-fn refused(values: Values, text: &[u8]) -> (u8, usize) {
-    let refusal = match values {
-        Values::Wholes => Sheet::<Whole>::read(text).err(),
-        Values::Readings => Sheet::<Reading>::read(text).err(),
-    };
-    match refusal {
-        None => (0, 0),
-        Some(refusal) => {
-            let notice = refusal.told();
-            (notice.number, notice.first)
-        }
-    }
-}
-
-// The text is refused with this number and this line; its note says which text it is.
-pub fn check_refused(rt: &impl Abort, values: Values, text: &[u8], told: (u8, usize), note: &str) {
-    assert_eq!(rt; refused(values, text), told, "{}", note);
+// A text is refused with this number and this line, or read where the number is 0; its note says which text it is.
+pub fn check_refused(
+    rt: &impl Abort,
+    refusal: Option<Refusal>,
+    number: u8,
+    line: usize,
+    note: &str,
+) {
+    let found = refusal.map(|refusal| {
+        let notice = refusal.told();
+        (notice.number, notice.first)
+    });
+    let told = (number != 0).then_some((number, line));
+    assert_eq!(rt; found, told, "{}", note);
 }
 
 // The head, a part so many times, and the tail.

@@ -19,28 +19,39 @@ align_small τ = subst (λ n. n ≤ 16) (sym (align-bytes τ)) (bytes_small (ali
 up_small : (k e : ℕ) → zero < k → k ≤ 16 → up k e ≤ e + 16
 up_small k e h small = let less : (k - e % k) % k < k = mod-lt (k - e % k) h in omega arith
 
--- the bytes of a sheet whose values have s bytes and alignment a, where r moves a place up
+-- the bytes of 64 places and of how many are filled, for items of n bytes and alignment k, where r moves a place up
+abbrev places_size : (ℕ → ℕ → ℕ) → ℕ → ℕ → ℕ
+places_size r k n = r (max k 8) (r 8 (r k 0 + 64 * n) + 8)
+
+-- the bytes of a sheet whose values have s bytes and alignment a
 abbrev sheet_size : (ℕ → ℕ → ℕ) → ℕ → ℕ → ℕ
 sheet_size r a s =
-    r (max (max 1 (max a 1)) (max 8 (max a 8))) (r 8 (r 1 (r 8 (r a (r 8 (r (max 1 (max a 1)) 0 + 64 * r (max 1 (max a 1)) (r a 1 + s)) + 8) + 64 * s) + 8) + 16) + 6224)
+    r (max (max (max 1 (max a 1)) 8) (max (max a 8) 8)) (r 8 (r 1 (r (max a 8) (r (max (max 1 (max a 1)) 8) 0 + places_size r (max 1 (max a 1)) (r (max 1 (max a 1)) (r a 1 + s))) + places_size r a s) + 16) + 6224)
+
+places_small : (r : ℕ → ℕ → ℕ) → ((k e : ℕ) → zero < k → k ≤ 16 → r k e ≤ e + 16) → (k n : ℕ) → zero < k → k ≤ 16 → places_size r k n ≤ 64 * n + 56
+places_small r up k n pos small =
+    let e1 = up k 0 pos small in
+    let e2 = up 8 (r k 0 + 64 * n) (omega arith) (omega arith) in
+    let e3 = up (max k 8) (r 8 (r k 0 + 64 * n) + 8) (omega arith) (omega arith) in
+    omega arith
 
 sheet_small : (r : ℕ → ℕ → ℕ) → ((k e : ℕ) → zero < k → k ≤ 16 → r k e ≤ e + 16) → (a s : ℕ) → zero < a → a ≤ 16 → s * 320 < 9223372036854775808 → sheet_size r a s < 9223372036854775808
 sheet_small r up a s pos small fits =
     let m = max 1 (max a 1) in
     let m1 : m ≤ 16 = omega arith in
     let m0 : zero < m = omega arith in
-    let n = max m (max 8 (max a 8)) in
-    let n1 : n ≤ 16 = omega arith in
-    let n0 : zero < n = omega arith in
-    let e1 = up m 0 m0 m1 in
-    let e2 = up a 1 pos small in
-    let e3 = up m (r a 1 + s) m0 m1 in
-    let e4 = up 8 (r m 0 + 64 * r m (r a 1 + s)) (omega arith) (omega arith) in
-    let e5 = up a (r 8 (r m 0 + 64 * r m (r a 1 + s)) + 8) pos small in
-    let e6 = up 8 (r a (r 8 (r m 0 + 64 * r m (r a 1 + s)) + 8) + 64 * s) (omega arith) (omega arith) in
-    let e7 = up 1 (r 8 (r a (r 8 (r m 0 + 64 * r m (r a 1 + s)) + 8) + 64 * s) + 8) (omega arith) (omega arith) in
-    let e8 = up 8 (r 1 (r 8 (r a (r 8 (r m 0 + 64 * r m (r a 1 + s)) + 8) + 64 * s) + 8) + 16) (omega arith) (omega arith) in
-    let e9 = up n (r 8 (r 1 (r 8 (r a (r 8 (r m 0 + 64 * r m (r a 1 + s)) + 8) + 64 * s) + 8) + 16) + 6224) n0 n1 in
+    let c = r m (r a 1 + s) in
+    let e1 = up a 1 pos small in
+    let e2 = up m (r a 1 + s) m0 m1 in
+    let cells = places_size r m c in
+    let p1 = places_small r up m c m0 m1 in
+    let consts = places_size r a s in
+    let p2 = places_small r up a s pos small in
+    let e3 = up (max m 8) 0 (omega arith) (omega arith) in
+    let e4 = up (max a 8) (r (max m 8) 0 + cells) (omega arith) (omega arith) in
+    let e5 = up 1 (r (max a 8) (r (max m 8) 0 + cells) + consts) (omega arith) (omega arith) in
+    let e6 = up 8 (r 1 (r (max a 8) (r (max m 8) 0 + cells) + consts) + 16) (omega arith) (omega arith) in
+    let e7 = up (max (max m 8) (max (max a 8) 8)) (r 8 (r 1 (r (max a 8) (r (max m 8) 0 + cells) + consts) + 16) + 6224) (omega arith) (omega arith) in
     omega arith
 
 pub sheet_fits : (τ : Ty) (n : ℕ) → 320 ≤ n → n * size τ < 9223372036854775808 → sheet_size up (align τ) (size τ) < 9223372036854775808

@@ -3,6 +3,7 @@
 
 mod calls;
 mod kept;
+mod laws;
 mod laying;
 mod sheets;
 
@@ -10,3 +11,4 @@ pub use board::{Board, Row, TaskState};
 pub use engine::{Event, PLACES};
 pub use faults::{Refusal, Side, StepFault, TaskFault};
 pub use kept::Station;
+pub use laws::stations_keep_stands;

@@ -8,24 +8,25 @@ ghost use Rattle.station.specs.Sheets.{no_board, fresh_board, cell_in, cell_of, 
 ghost use Rattle.engine.specs.World.{world_of, Leaves};
 
 use crate::kept::Station;
-use crate::laying::{blank, lay, lay_cells, modes_of};
+use crate::laying::{blank, lay};
 use board::{Board, rows_of};
 use book::Book;
 use engine::{CONSTANTS, Engine, PLACES};
 use faults::Refusal;
 use program::{Mode, Program};
 use sheet::{Cell, Sheet};
+use std::array;
 use value::Kind;
 
 fn board_of<K: Kind>(cells: &[Cell<K>], owed: &[u8]) -> Board
     ensures { result ≡ fresh_board cells.now owed.now }
 {
-    let modes = modes_of(cells);
-    let rows = rows_of(owed);
+    let mut modes = [Mode::Protected; 64];
+    lay(&mut modes, 0, cells, |cell| cell.mode);
     Board {
         modes,
         owners: [None; 64],
-        rows,
+        rows: rows_of(owed),
     }
 }
 
@@ -34,11 +35,7 @@ fn consts_in<K: Kind>(slice: &[K]) -> [K; 64]
     requires { 320 ≤ length slice.now }
     ensures { result ≡ tabulated (constant_in K.ZERO slice.now) 64 }
 {
-    let mut consts = [K::ZERO; 64];
-    for n in 0..64 {
-        consts[n] = slice[CONSTANTS + n];
-    }
-    consts
+    array::from_fn(|n| slice[CONSTANTS + n])
 }
 
 // The cells with their modes.
@@ -46,17 +43,10 @@ fn cells_in<K: Kind>(board: &Board, slice: &[K]) -> [Cell<K>; 64]
     requires { 320 ≤ length slice.now }
     ensures { result ≡ tabulated (cell_in K.ZERO board.now slice.now) 64 }
 {
-    let mut cells = [Cell {
-        mode: Mode::Protected,
-        value: K::ZERO,
-    }; 64];
-    for c in 0..64 {
-        cells[c] = Cell {
-            mode: board.modes[c],
-            value: slice[c],
-        };
-    }
-    cells
+    array::from_fn(|c| Cell {
+        mode: board.modes[c],
+        value: slice[c],
+    })
 }
 
 // Sets the engine up as the sheet says; the book rests.
@@ -67,8 +57,8 @@ fn set_up<B: Book, K: Kind>(engine: &mut Engine<B>, slice: &mut [K], sheet: &She
     let cells = sheet.cells();
     let consts = sheet.consts();
     blank(slice);
-    lay_cells(slice, cells);
-    lay(slice, CONSTANTS, consts);
+    lay(slice, 0, cells, |cell| cell.value);
+    lay(slice, CONSTANTS, consts, |value| *value);
     engine.board = board_of(cells, sheet.owed());
     engine.cells = cells.len();
     engine.consts = consts.len();

@@ -1,8 +1,8 @@
 -- Lines to be written: what stands after one byte more, and after several.
-use Rattle.std.proofs.Common.{◌≡◌, ℕ, zero, suc, ◌+◌, ◌/◌, ◌%◌, ◌^◌, ◌<◌, ◌≤◌, List, [], ◌∷◌, ◌++◌, length, get_or, take, set, decimal, sym, refl, ap, ◌∙◌, append_assoc, append-nil, arith}
+use Rattle.std.proofs.Common.{◌≡◌, ℕ, zero, suc, ◌+◌, ◌<◌, ◌≤◌, List, [], ◌∷◌, ◌++◌, length, get_or, take, set, sym, refl, ap, ◌∙◌, append_assoc, append-nil, arith}
 use Rattle.std.proofs.lemmas.List.{take_more_set, take_all, take_at, length-take-le, length_push, take_more}
-use Rattle.std.proofs.lemmas.Fmt.{decimal_step, decimal_digit}
-use Rattle.text.specs.Line.{added}
+use Rattle.text.specs.declared.output.Line.{Line}
+use Rattle.text.specs.Line.{spelt, added}
 
 pub push_room : (bytes : List ℕ) (n b : ℕ) → n < 32 → length bytes ≡ 32 → take (n + 1) (set bytes n b) ≡ added (take n bytes) (b ∷ [])
 push_room bytes n b h l =
@@ -24,16 +24,10 @@ added_more was a b = take_again 32 (was ++ a) b ∙ ap (take 32) (append_assoc w
 pub added_none : (was : List ℕ) → length was ≤ 32 → added was [] ≡ was
 added_none was h = take_all 32 (was ++ []) (omega (arith, ap length (append-nil was))) ∙ append-nil was
 
+pub held : (l : Line) → added (spelt l) [] ≡ spelt l
+held l = added_none (spelt l) (omega (arith, length-take-le l.len l.bytes (omega (arith, l.ok.0, l.ok.1)), l.ok.0))
+
 -- one turn of the loop that adds bytes one by one
 pub extend_more : (start was now more : List ℕ) (i : ℕ) → i < length more → was ≡ added start (take i more) → now ≡ added was (get_or more i 0 ∷ []) → now ≡ added start (take (i + 1) more)
 extend_more start was now more i h e f =
     f ∙ (ap (λ l. added l (get_or more i 0 ∷ [])) e ∙ (added_more start (take i more) (get_or more i 0 ∷ []) ∙ ap (added start) (sym (take_more more i 0 h))))
-
-pub digits_more : (start was now : List ℕ) (n : ℕ) → 10 ≤ n → n < 2 ^ 64 → was ≡ added start (decimal (n / 10)) → now ≡ added was ((48 + n % 10) ∷ []) → now ≡ added start (decimal n)
-digits_more start was now n h g e f =
-    f ∙ (ap (λ l. added l ((48 + n % 10) ∷ [])) e ∙ (added_more start (decimal (n / 10)) ((48 + n % 10) ∷ []) ∙ ap (added start) (sym (decimal_step n h g))))
-
-pub digits_one : (start now : List ℕ) (n : ℕ) → n < 10 → now ≡ added start ((48 + n % 10) ∷ []) → now ≡ added start (decimal n)
-digits_one start now n h f =
-    let m : n % 10 ≡ n = omega arith in
-    f ∙ (ap (λ k. added start ((48 + k) ∷ [])) m ∙ ap (added start) (sym (decimal_digit n h)))

@@ -1,9 +1,8 @@
 -- Bytes cut into pieces: the first piece, by how many bytes stand before the first cut.
-use Rattle.std.proofs.Common.{◌≡◌, ℕ, zero, suc, ◌+◌, ◌-◌, ◌<◌, Bool, true, false, cond, not, eqb, List, [], ◌∷◌, length, take, drop, sym, refl, ap, ◌∙◌, add-one, arith}
+use Rattle.std.proofs.Common.{◌≡◌, ℕ, zero, suc, ◌+◌, ◌-◌, ◌<◌, Bool, not, eqb, List, [], ◌∷◌, length, take, drop, sym, refl, ap, ◌∙◌, add-one, arith}
 use native.Mathlib.Nat.{sub-zero}
 use Rattle.std.specs.List.{prefix_len}
 use Rattle.std.proofs.lemmas.List.{take_rest}
-use Rattle.std.proofs.lemmas.Bool.{cond-true, cond-false}
 use Rattle.std.proofs.lemmas.Bool.Decides.{nat_tests}
 use Rattle.text.specs.Cut.{onto, cut}
 
@@ -12,33 +11,21 @@ other d b = not (eqb b d)
 
 pub cut_first : (d : ℕ) (bs : List ℕ) (n : ℕ) → prefix_len (other d) bs ≡ n → n < length bs → cut d bs ≡ take n bs ∷ cut d (drop (suc n) bs)
 cut_first d [] n e h = absurd (omega arith)
-cut_first d (b ∷ bs) zero e h =
-    let f : eqb b d ≡ true = grind (arith, nat_tests) in
-    cond-true (eqb b d) ([] ∷ cut d bs) (onto b (cut d bs)) f
-cut_first d (b ∷ bs) (suc n) e h =
-    let f : eqb b d ≡ false = grind (arith, nat_tests) in
-    let l : prefix_len (other d) bs ≡ n = grind (arith, nat_tests) in
-    cond-false (eqb b d) ([] ∷ cut d bs) (onto b (cut d bs)) f ∙ ap (onto b) (cut_first d bs n l (omega arith))
+cut_first d (b ∷ bs) zero e h = grind (arith, nat_tests)
+cut_first d (b ∷ bs) (suc n) e h = grind (arith, nat_tests, cut_first d bs n)
 
 pub cut_last : (d : ℕ) (bs : List ℕ) → prefix_len (other d) bs ≡ length bs → cut d bs ≡ bs ∷ []
 cut_last d [] h = refl
-cut_last d (b ∷ bs) h =
-    let f : eqb b d ≡ false = grind (arith, nat_tests) in
-    let l : prefix_len (other d) bs ≡ length bs = grind (arith, nat_tests) in
-    cond-false (eqb b d) ([] ∷ cut d bs) (onto b (cut d bs)) f ∙ ap (onto b) (cut_last d bs l)
+cut_last d (b ∷ bs) h = grind (arith, nat_tests, cut_last d bs)
 
 some_onto : (b : ℕ) (ps : List (List ℕ)) → 0 < length (onto b ps)
 some_onto b [] = omega arith
 some_onto b (p ∷ ps) = omega arith
 
-some_cond : (f : Bool) (ps qs : List (List ℕ)) → 0 < length ps → 0 < length qs → 0 < length (cond f ps qs)
-some_cond true ps qs h g = h
-some_cond false ps qs h g = g
-
 -- there is always a piece
 pub cut_some : (d : ℕ) (bs : List ℕ) → 0 < length (cut d bs)
 cut_some d [] = omega arith
-cut_some d (b ∷ bs) = some_cond (eqb b d) ([] ∷ cut d bs) (onto b (cut d bs)) (omega arith) (some_onto b (cut d bs))
+cut_some d (b ∷ bs) = grind (arith, nat_tests, some_onto b (cut d bs))
 
 -- the same, as the loops have the parts of a slice
 pub piece_first : (d : ℕ) (bs : List ℕ) (n : ℕ) → n ≡ prefix_len (other d) bs → n < length bs → cut d bs ≡ take (n - 0) bs ∷ cut d (take (length bs - (n + 1)) (drop (n + 1) bs))

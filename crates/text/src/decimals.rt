@@ -15,18 +15,12 @@ fn digit(b: u8) -> Option<u64>
 pub fn number(part: &[u8]) -> Option<u64>
     ensures { result ≡ numeral part.now }
 {
-    if part.len() == 0 || part.len() > 10 {
+    if part.is_empty() || part.len() > 10 || part.len() > 1 && part[0] == b'0' {
         return None;
     }
-    if part[0] == b'0' && part.len() != 1 {
-        return None;
-    }
-    let mut n: u64 = 0;
+    let mut n = 0;
     for b in part {
-        let Some(d) = digit(*b) else {
-            return None;
-        };
-        n = n * 10 + d;
+        n = n * 10 + digit(*b)?;
     }
     Some(n)
 }

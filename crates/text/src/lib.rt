@@ -8,7 +8,7 @@ mod output;
 mod token;
 mod tokens;
 
-pub use cut::before;
+pub use cut::{before, split_once};
 pub use decimals::number;
 pub use frame::framed;
 pub use output::Line;

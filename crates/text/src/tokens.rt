@@ -1,19 +1,20 @@
-ghost use Rattle.std.specs.Prelude.{◌≡◌, ◌<◌, ◌≤◌, Bool, ◌∷◌, map, length, take, drop};
+ghost use Rattle.std.specs.Prelude.{◌≡◌, ◌<◌, ◌≤◌, Bool, [], ◌∷◌, map, length, MatchOption, IfSome};
 ghost use Rattle.std.specs.List.{prefix_len};
 ghost use Rattle.text.specs.Tokens.{figure, atom, seen, lexed, tokens};
 
 use crate::token::Token;
+use arrayvec::ArrayVec;
 
 fn is_figure(b: u8) -> bool
     ensures { result ≡ figure b }
 {
-    b >= b'0' && b <= b'9' || b == b'-'
+    b.is_ascii_digit() || b == b'-'
 }
 
 fn is_atom(b: u8) -> bool
     ensures { result ≡ atom b }
 {
-    is_figure(b) || b >= b'a' && b <= b'z'
+    is_figure(b) || b.is_ascii_lowercase()
 }
 
 // How many bytes of parts stand at the front.
@@ -21,49 +22,39 @@ fn atoms(s: &[u8]) -> usize
     ensures within { result ≤ length s.now }
     ensures value { result ≡ prefix_len atom s.now }
 {
-    let mut n = 0;
-    while n < s.len() && is_atom(s[n]) {
-        n += 1;
-    }
-    n
+    s.iter().take_while(|b| is_atom(**b)).count()
 }
 
-// The first token, and what follows it.
-fn next<'a>(bytes: &'a [u8]) -> (Token<'a>, &'a [u8])
-    requires { 0 < length bytes.now }
-    ensures lexes { lexed bytes.now ≡ seen result.0 ∷ lexed result.1.now }
-    ensures falls { length result.1.now < length bytes.now }
+// The first token and what follows it, if there are bytes.
+fn next(bytes: &[u8]) -> Option<(Token<'_>, &[u8])>
+    ensures lexes { MatchOption result (bytes.now ≡ []) (λ r. lexed bytes.now ≡ seen r.0 ∷ lexed r.1.now) }
+    ensures falls { IfSome result (λ r. length r.1.now < length bytes.now) }
 {
-    let b = bytes[0];
-    if !is_atom(b) {
-        return (Token::Mark(b), &bytes[1..]);
+    let (first, others) = bytes.split_first()?;
+    if !is_atom(*first) {
+        return Some((Token::Mark(*first), others));
     }
     let (part, rest) = bytes.split_at(atoms(bytes));
-    if is_figure(b) {
-        (Token::Number(part), rest)
+    if is_figure(*first) {
+        Some((Token::Number(part), rest))
     } else {
-        (Token::Word(part), rest)
+        Some((Token::Word(part), rest))
     }
 }
 
-// Fills `out` with the tokens of the bytes and says how many there are.
-pub fn lex<'a>(bytes: &'a [u8], out: &mut [Token<'a>; 24]) -> usize
-    ensures within { result ≤ 24 }
-    ensures filled { map seen (take result out.new) ≡ tokens bytes.now }
-    ensures sized { length out.new ≡ 24 }
-    ensures stays { drop result out.new ≡ drop result out.old }
+// The tokens of the bytes. Past 23 of them the rest is one token.
+pub fn lex(bytes: &[u8]) -> ArrayVec<Token<'_>, 24>
+    ensures { map seen result.items ≡ tokens bytes.now }
 {
+    let mut all = ArrayVec::new();
     let mut rest = bytes;
-    let mut n = 0;
-    while !rest.is_empty() {
-        if n >= 23 {
-            out[n] = Token::Rest(rest);
-            return n + 1;
+    while let Some((token, after)) = next(rest) {
+        if all.len() == 23 {
+            all.push(Token::Rest(rest));
+            break;
         }
-        let (token, after) = next(rest);
-        out[n] = token;
-        n += 1;
+        all.push(token);
         rest = after;
     }
-    n
+    all
 }

@@ -1,1 +1,2 @@
+pub mod HexReading
 pub mod Writing

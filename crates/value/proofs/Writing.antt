@@ -1,21 +1,31 @@
 -- Forms as they are written, piece after piece, onto a line.
-use Rattle.std.proofs.Common.{◌≡◌, ℕ, zero, suc, ◌-◌, ◌/◌, ◌%◌, ◌<◌, ◌≤◌, true, false, List, [], ◌∷◌, length, ℤ, pos, negsuc, nat_abs, decimal, sym, ap, ◌∙◌, arith}
+use Rattle.std.proofs.Common.{◌≡◌, ℕ, zero, suc, ◌-◌, ◌/◌, ◌%◌, ◌<◌, ◌≤◌, true, false, List, [], ◌∷◌, length, ℤ, pos, negsuc, nat_abs, decimal, ap, ◌∙◌, arith}
 use lib.Signed.{lt_z}
 use Rattle.std.specs.Char.{digit_char}
 use Rattle.std.specs.Fmt.{signed_decimal}
 use Rattle.std.proofs.lemmas.List.{take_all, length_push}
 use Rattle.std.proofs.lemmas.Bool.{ltb-true, true≢false}
 use Rattle.text.specs.Line.{added}
-use Rattle.text.proofs.Lines.{added_more, added_none}
+use Rattle.text.proofs.Lines.{added_more}
 use Rattle.value.specs.Forms.{tagged}
 use Rattle.value.specs.Hex.{hex}
+use Rattle.value.specs.Hexes.{length_hex}
+use Rattle.std.specs.Prelude.{FitsSigned}
+use Rattle.std.specs.Int.{w32}
+use Rattle.std.proofs.lemmas.Fmt.{length_signed_le}
 
 -- a part and the closing bracket after a form's front
-pub closing : (letter : ℕ) (part front was now : List ℕ) → length part ≤ 28 → front ≡ 40 ∷ letter ∷ 32 ∷ [] → was ≡ added front part → now ≡ added was (41 ∷ []) → now ≡ tagged letter part
+closing : (letter : ℕ) (part front was now : List ℕ) → length part ≤ 28 → front ≡ 40 ∷ letter ∷ 32 ∷ [] → was ≡ added front part → now ≡ added was (41 ∷ []) → now ≡ tagged letter part
 closing letter part front was now h e f g =
     g
     ∙ (ap (λ l. added l (41 ∷ [])) (f ∙ ap (λ l. added l part) e)
     ∙ (added_more (40 ∷ letter ∷ 32 ∷ []) part (41 ∷ []) ∙ take_all 32 (tagged letter part) (omega (arith, length_push part 41))))
+
+pub closing_hex : (n : ℕ) (front was now : List ℕ) → front ≡ 40 ∷ 97 ∷ 32 ∷ [] → was ≡ added front (hex 8 n) → now ≡ added was (41 ∷ []) → now ≡ tagged 97 (hex 8 n)
+closing_hex n front was now = closing 97 (hex 8 n) front was now (omega (arith, length_hex 8 n))
+
+pub closing_count : (z : ℤ) (front was now : List ℕ) → FitsSigned w32 z → front ≡ 40 ∷ 110 ∷ 32 ∷ [] → was ≡ added front (signed_decimal z) → now ≡ added was (41 ∷ []) → now ≡ tagged 110 (signed_decimal z)
+closing_count z front was now f = closing 110 (signed_decimal z) front was now (omega (arith, length_signed_le 10 z (omega (arith, f)) (omega (arith, f))))
 
 pub with_minus : (z : ℤ) (start was now : List ℕ) (n : ℕ) → lt_z z (pos 0) ≡ true → n ≡ nat_abs z → was ≡ added start (45 ∷ []) → now ≡ added was (decimal n) → now ≡ added start (signed_decimal z)
 with_minus (pos k) start was now n h m e f = absurd (omega (arith, ltb-true k 0 h))
@@ -26,16 +36,17 @@ pub without_minus : (z : ℤ) (start was now : List ℕ) (n : ℕ) → lt_z z (p
 without_minus (pos k) start was now n h m e f = f ∙ (λ i. added (e i) (decimal (m i)))
 without_minus (negsuc k) start was now n h m e f = absurd (true≢false h)
 
-pub hex_more : (start was now : List ℕ) (k n b : ℕ) → 0 < k → b ≡ digit_char (n % 16) → was ≡ added start (hex (k - 1) (n / 16)) → now ≡ added was (b ∷ []) → now ≡ added start (hex k n)
+pub hex_more : (start was now : List ℕ) (k n b : ℕ) → 1 < k → was ≡ added start (hex (k - 1) (n / 16)) → b ≡ digit_char (n % 16) → now ≡ added was (b ∷ []) → now ≡ added start (hex k n)
 unfolding hex
-hex_more start was now zero n b h d e f = absurd (omega arith)
-hex_more start was now (suc k) n b h d e f =
+hex_more start was now zero n b h e d f = absurd (omega arith)
+hex_more start was now (suc k) n b h e d f =
     let one : suc k - 1 ≡ k = omega arith in
     f
     ∙ ((λ i. added ((e ∙ ap (λ j. added start (hex j (n / 16))) one) i) (d i ∷ []))
     ∙ added_more start (hex k (n / 16)) (digit_char (n % 16) ∷ []))
 
-pub hex_none : (start : List ℕ) (k n : ℕ) → k ≤ 0 → length start ≤ 32 → start ≡ added start (hex k n)
+pub hex_one : (start now : List ℕ) (k n b : ℕ) → 0 < k → k ≤ 1 → b ≡ digit_char (n % 16) → now ≡ added start (b ∷ []) → now ≡ added start (hex k n)
 unfolding hex
-hex_none start zero n h l = sym (added_none start l)
-hex_none start (suc k) n h l = absurd (omega arith)
+hex_one start now zero n b h g d f = absurd (omega arith)
+hex_one start now (suc zero) n b h g d f = f ∙ ap (λ c. added start (c ∷ [])) d
+hex_one start now (suc (suc k)) n b h g d f = absurd (omega arith)

@@ -1,5 +1,5 @@
 -- The numbers that sheets have for operations, causes and faults.
-use Rattle.std.specs.Prelude.{ℕ, cond, List, [], ◌∷◌, Some, None, Option, ◌==◌}
+use Rattle.std.specs.Prelude.{◌≡◌, ℕ, cond, List, [], ◌∷◌, Some, None, Ok, Option, Result, ok_or, ◌==◌}
 use Rattle.value.specs.declared.codes.Operation.{Operation}
 use Rattle.value.specs.declared.codes.Operation.TheVariants.{Sum, Difference, Smaller, Equal, Less, Quotient}
 use Rattle.value.specs.declared.codes.Cause.{Cause}
@@ -33,3 +33,9 @@ cause_number OutOfRange = 5
 abbrev pub fault_number : Fault → ℕ
 fault_number Form = 3
 fault_number Bound = 4
+
+-- a number is read as the operation that has it, and is past its bound where none has
+pub record NumberRead (n : ℕ) (r : Result Operation Fault) : Type 0 where
+  pub value : r ≡ ok_or (operation_at n) Bound
+  pub there : (op : Operation) → r ≡ Ok op → operation_number op ≡ n
+  pub back : (op : Operation) → operation_number op ≡ n → r ≡ Ok op

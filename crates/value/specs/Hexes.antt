@@ -1,13 +1,14 @@
--- Hexadecimal digits: what the loop over them keeps, and that eight of them and their number go back and forth.
-use Rattle.std.specs.Prelude.{◌≡◌, ℕ, zero, suc, ◌+◌, ◌-◌, ◌*◌, ◌/◌, ◌%◌, ◌^◌, ◌<◌, ◌≤◌, Bool, true, false, ◌&&◌, List, [], ◌∷◌, ◌++◌, length, take, Some, None, ◌==◌, slice_index, refl}
-use Rattle.std.proofs.Common.{sym, ap, subst, ◌∙◌, ⊎_elim, pow-suc, add-one, arith, lit<}
-use Rattle.std.proofs.Math.Nat.{pow-le-pow_right}
+-- Hexadecimal digits: eight of them and their number go back and forth.
+use Rattle.std.specs.Prelude.{◌≡◌, ℕ, zero, suc, ◌+◌, ◌*◌, ◌/◌, ◌%◌, ◌^◌, ◌<◌, ◌≤◌, true, ◌&&◌, List, [], ◌∷◌, ◌++◌, length, take, Some, None, ◌==◌, slice_index, refl}
+use Rattle.std.proofs.Common.{sym, ap, ◌∙◌, pow-suc, add-one, arith}
 use Rattle.std.specs.Str.Parse.{AllDigits, digits_value}
 use Rattle.std.specs.Char.{digit_value, digit_char as digitChar}
+use Rattle.std.specs.Bool.{Decides}
 use Rattle.std.specs.List.{AllByRecursion}
-use Rattle.std.proofs.lemmas.Bool.{cond-true, cond-false, and_from, and_right, and_parts, eqb-true, eq-eqb, cases_Bool}
+use Rattle.std.proofs.lemmas.Option.{cond_some}
+use Rattle.std.proofs.lemmas.Bool.{cond-true, and_from, and_parts, eqb-true, eq-eqb}
 use Rattle.std.proofs.lemmas.Bool.Decides.{nat_tests}
-use Rattle.std.proofs.ByRecursion.{Decides-by_and, All-get_or, All-more, All-push}
+use Rattle.std.proofs.ByRecursion.{Decides-by_and, All-get_or, All-push}
 use Rattle.std.proofs.lemmas.List.{take_more, take_all, length_push}
 use Rattle.std.proofs.lemmas.Int.Digits.{digits_value-lt, digits_value_push, digits_value_more}
 use Rattle.std.proofs.lemmas.Str.{digit_value-digit_char}
@@ -17,47 +18,11 @@ use Rattle.value.specs.Hex.{hex_digit, all_hex, hexed, hex}
 abbrev pub Hexes : List ℕ → Type 0
 Hexes bs = AllByRecursion (λ c. hex_digit c ≡ true) bs
 
-hexes_of : (bs : List ℕ) → all_hex bs ≡ true → Hexes bs
-hexes_of bs = (Decides-by_and hex_digit (λ c. hex_digit c ≡ true) all_hex (λ c. ((λ h. h), (λ h. h))) refl (λ _ _. refl) bs).0
+pub hexes : (bs : List ℕ) → Decides (all_hex bs) (Hexes bs)
+hexes bs = Decides-by_and hex_digit (λ c. hex_digit c ≡ true) all_hex (λ c. ((λ h. h), (λ h. h))) refl (λ _ _. refl) bs
 
-all_hexes : (bs : List ℕ) → Hexes bs → all_hex bs ≡ true
-all_hexes bs = (Decides-by_and hex_digit (λ c. hex_digit c ≡ true) all_hex (λ c. ((λ h. h), (λ h. h))) refl (λ _ _. refl) bs).1
-
--- the first i bytes are digits, and write n
-pub record Sofar (bs : List ℕ) (i n : ℕ) : Type 0 where
-  pub is : n ≡ digits_value 16 (take i bs)
-  pub all : Hexes (take i bs)
-  pub fits : n < 16 ^ i
-
-pub turn : (bs : List ℕ) (i n d : ℕ) → Sofar bs i n → i < length bs → hex_digit (slice_index bs i) ≡ true → digit_value (slice_index bs i) ≡ d → d < 16 → Sofar bs (i + 1) (n * 16 + d)
-turn bs i n d s h x v l =
-    record {
-      is = sym (digits_value_more 16 bs i h ∙ cc (v, s.is));
-      all = All-more (λ c. hex_digit c ≡ true) bs i 0 h s.all x;
-      fits = rw (add-one, pow-suc) (omega (arith, s.fits));
-    }
-
-pub no_hex : (bs : List ℕ) (i : ℕ) → i < length bs → hex_digit (slice_index bs i) ≡ false → hexed bs ≡ None
-no_hex bs i h f =
-    cond-false (length bs == 8 && all_hex bs) (Some (digits_value 16 bs)) None (and_right (length bs == 8) (all_hex bs) (⊎_elim (λ y. absurd (let t : hex_digit (slice_index bs i) ≡ true = All-get_or (λ c. hex_digit c ≡ true) bs i 0 h (hexes_of bs y) in let z : ◌≡◌ {A = Bool} true false = sym t ∙ f in let o : ◌≡◌ {A = ℕ} 0 1 = cc in omega arith)) (λ g. g) (cases_Bool (all_hex bs))))
-
-is_hexed : (bs : List ℕ) → length bs ≡ 8 → Hexes bs → hexed bs ≡ Some (digits_value 16 bs)
-is_hexed bs l h = cond-true (length bs == 8 && all_hex bs) _ None (and_from _ _ (eq-eqb _ 8 l) (all_hexes bs h))
-
--- one digit more fits 32 bits
-pub room : (i n : ℕ) → i < 8 → n < 16 ^ i → n * 16 + 15 < 2 ^ 32
-room i n h l = let j : i ≤ 7 = omega arith in let p : 16 ^ i ≤ 16 ^ 7 = pow-le-pow_right (lit< tt) j in omega arith
-
-pub figure_value : (c : ℕ) → 48 ≤ c → c < 58 → (hex_digit c ≡ true) × (digit_value c ≡ c - 48)
-figure_value c h g = (grind (arith, nat_tests), grind (arith, nat_tests))
-
-pub letter_value : (c : ℕ) → 97 ≤ c → c < 103 → (hex_digit c ≡ true) × (digit_value c ≡ c - 97 + 10)
-letter_value c h g = (grind (arith, nat_tests), grind (arith, nat_tests))
-
-pub finished : (bs : List ℕ) (i n : ℕ) → length bs ≡ 8 → length bs ≤ i → Sofar bs i n → Some n ≡ hexed bs
-finished bs i n l h s =
-    let all : take i bs ≡ bs = take_all i bs h in
-    ap Some (s.is ∙ ap (digits_value 16) all) ∙ sym (is_hexed bs l (subst Hexes all s.all))
+pub is_hexed : (bs : List ℕ) → length bs ≡ 8 → Hexes bs → hexed bs ≡ Some (digits_value 16 bs)
+is_hexed bs l h = cond-true (length bs == 8 && all_hex bs) _ None (and_from _ _ (eq-eqb _ 8 l) ((hexes bs).1 h))
 
 -- the digits of a number
 pub length_hex : (k n : ℕ) → length (hex k n) ≡ k
@@ -87,7 +52,7 @@ pub hexed_hex : (n : ℕ) → n < 4294967296 → hexed (hex 8 n) ≡ Some n
 hexed_hex n h = is_hexed (hex 8 n) (length_hex 8 n) (hexes_hex 8 n) ∙ ap Some (value_hex 8 n h)
 
 -- and the number of some digits
-char_digit : (c : ℕ) → hex_digit c ≡ true → (digitChar (digit_value c) ≡ c) × (digit_value c < 16)
+pub char_digit : (c : ℕ) → hex_digit c ≡ true → (digitChar (digit_value c) ≡ c) × (digit_value c < 16)
 char_digit c h = (grind (arith, nat_tests), grind (arith, nat_tests))
 
 hex_value_upto : (bs : List ℕ) → Hexes bs → (i : ℕ) → i ≤ length bs → hex i (digits_value 16 (take i bs)) ≡ take i bs
@@ -112,18 +77,10 @@ digits_of (c ∷ cs) h = ((char_digit c h.0).1, digits_of cs h.1)
 
 pub hex_of_hexed : (bs : List ℕ) (n : ℕ) → hexed bs ≡ Some n → (n < 4294967296) × (hex 8 n ≡ bs)
 hex_of_hexed bs n e =
-    ⊎_elim
-    (λ y.
-    let p = and_parts (length bs == 8) (all_hex bs) y in
+    let s = cond_some (length bs == 8 && all_hex bs) (digits_value 16 bs) n e in
+    let p = and_parts (length bs == 8) (all_hex bs) s.0 in
     let l : length bs ≡ 8 = eqb-true (length bs) 8 p.0 in
-    let h = hexes_of bs p.1 in
-    let f : Some (digits_value 16 bs) ≡ Some n = sym (cond-true (length bs == 8 && all_hex bs) (Some (digits_value 16 bs)) None y) ∙ e in
-    let is : digits_value 16 bs ≡ n = cc in
+    let h = (hexes bs).0 p.1 in
     let low : digits_value 16 bs < 16 ^ length bs = digits_value-lt 16 bs (digits_of bs h) in
     let top : 16 ^ length bs ≡ 16 ^ 8 = ap (λ k. 16 ^ k) l in
-    (omega arith, ap (hex 8) (sym is) ∙ hex_value bs 8 l h))
-    (λ f.
-    let g : None ≡ Some n = sym (cond-false (length bs == 8 && all_hex bs) (Some (digits_value 16 bs)) None f) ∙ e in
-    let z : ◌≡◌ {A = ℕ} 0 1 = cc in
-    absurd (omega arith))
-    (cases_Bool (length bs == 8 && all_hex bs))
+    (omega (arith, s.1), ap (hex 8) (sym s.1) ∙ hex_value bs 8 l h)

@@ -7,8 +7,10 @@ pub mod Bearings
 pub mod Wholes
 pub mod Readings
 pub mod Laws
+pub mod Answers
 pub mod Hexes
 pub mod Places
+pub mod Decimals
 pub mod Signs
 pub mod Floats
 pub mod ReadingKindLemmas

@@ -1,13 +1,13 @@
 -- Tokens in their places: the tokens of a form, and the bytes of tokens that are a form's.
-use Rattle.std.specs.Prelude.{◌≡◌, ℕ, zero, suc, ◌<◌, ◌≤◌, Bool, true, false, cond, ◌&&◌, List, [], ◌∷◌, ◌++◌, map, length, Some, None, ◌==◌, ◌≢◌, slice_index, slice_index_or, refl}
-use Rattle.std.proofs.Common.{sym, ap, ◌∙◌, ⊎_elim, arith}
+use Rattle.std.specs.Prelude.{◌≡◌, ℕ, zero, suc, ◌<◌, ◌≤◌, Bool, true, false, cond, List, [], ◌∷◌, ◌++◌, map, length, Some, ◌==◌, slice_index, slice_index_or, refl}
+use Rattle.std.proofs.Common.{sym, ap, ◌∙◌, arith}
 use Rattle.std.specs.List.{flat_map, AllByRecursion}
-use Rattle.std.proofs.ByRecursion.{All-weaker}
-use Rattle.std.proofs.lemmas.Bool.{cond-true, cond-false, cases_Bool, and_parts, eqb-true, true≢false}
+use Rattle.std.proofs.lemmas.Bool.{cond-true, and_parts, eqb-true}
 use Rattle.text.specs.Tokens.{Tok, end, number, word, mark, rest, seen, text, figure, atom, part, prefixed, lexed}
+use Rattle.std.proofs.lemmas.List.{length-map}
 use Rattle.text.specs.declared.token.Token.{Token}
-use Rattle.std.proofs.lemmas.List.{length-map, length_push}
-use Rattle.value.specs.Forms.{Plain, Bracketed, tagged, is_mark, is_letter, part_of, tagged_at, tagged_part, lone_at, lone, seen_at}
+use Rattle.value.specs.Answers.{present}
+use Rattle.value.specs.Forms.{tagged, is_mark, is_letter, part_of, tagged_at, tagged_part, lone_at, lone, seen_at}
 
 onto_part : (b c : ℕ) (w : List ℕ) (f : Bool) (ts : List Tok) → prefixed b (cond f (number (c ∷ w)) (word (c ∷ w)) ∷ ts) ≡ part b (c ∷ w) ∷ ts
 onto_part b c w true ts = refl
@@ -30,11 +30,11 @@ lexed_after [] some all = absurd (omega arith)
 lexed_after (b ∷ w) some all = (part b w, part_of_part b w (figure b), lexed_part b w all.0 all.1)
 
 text_mark : (b : ℕ) (t : Tok) → is_mark b t ≡ true → text t ≡ b ∷ []
-text_mark b end h = absurd (let z : ◌≡◌ {A = ℕ} 0 1 = cc in omega arith)
-text_mark b (number w) h = absurd (let z : ◌≡◌ {A = ℕ} 0 1 = cc in omega arith)
-text_mark b (word w) h = absurd (let z : ◌≡◌ {A = ℕ} 0 1 = cc in omega arith)
+text_mark b end h = absurd cc
+text_mark b (number w) h = absurd cc
+text_mark b (word w) h = absurd cc
 text_mark b (mark c) h = ap (λ x. x ∷ []) (eqb-true c b h)
-text_mark b (rest w) h = absurd (let z : ◌≡◌ {A = ℕ} 0 1 = cc in omega arith)
+text_mark b (rest w) h = absurd cc
 
 one_byte : (b : ℕ) (w : List ℕ) → length w ≡ 1 → slice_index w 0 ≡ b → w ≡ b ∷ []
 one_byte b [] l e = absurd (omega arith)
@@ -42,18 +42,18 @@ one_byte b (c ∷ []) l e = ap (λ x. x ∷ []) e
 one_byte b (c ∷ d ∷ w) l e = absurd (omega arith)
 
 text_letter : (b : ℕ) (t : Tok) → is_letter b t ≡ true → text t ≡ b ∷ []
-text_letter b end h = absurd (let z : ◌≡◌ {A = ℕ} 0 1 = cc in omega arith)
-text_letter b (number w) h = absurd (let z : ◌≡◌ {A = ℕ} 0 1 = cc in omega arith)
+text_letter b end h = absurd cc
+text_letter b (number w) h = absurd cc
 text_letter b (word w) h = let p = and_parts _ _ h in one_byte b w (eqb-true _ 1 p.0) (eqb-true _ b p.1)
-text_letter b (mark c) h = absurd (let z : ◌≡◌ {A = ℕ} 0 1 = cc in omega arith)
-text_letter b (rest w) h = absurd (let z : ◌≡◌ {A = ℕ} 0 1 = cc in omega arith)
+text_letter b (mark c) h = absurd cc
+text_letter b (rest w) h = absurd cc
 
 text_part : (t : Tok) (w : List ℕ) → part_of t ≡ Some w → text t ≡ w
-text_part end w e = absurd (let z : ◌≡◌ {A = ℕ} 0 1 = cc in omega arith)
+text_part end w e = absurd cc
 text_part (number v) w e = cc
 text_part (word v) w e = cc
-text_part (mark c) w e = absurd (let z : ◌≡◌ {A = ℕ} 0 1 = cc in omega arith)
-text_part (rest v) w e = absurd (let z : ◌≡◌ {A = ℕ} 0 1 = cc in omega arith)
+text_part (mark c) w e = absurd cc
+text_part (rest v) w e = absurd cc
 
 -- tokens by place, as they are and as they are seen
 place : (ts : List Token) (k : ℕ) → seen_at ts k ≡ slice_index_or (map seen ts) k end
@@ -72,22 +72,6 @@ pub record Worded (w : List ℕ) : Type 0 where
   pub some : 0 < length w
   pub few : length w ≤ 12
   pub atoms : AllByRecursion (λ c. atom c ≡ true) w
-
-pub short : (letter : ℕ) (w : List ℕ) → Worded w → length (tagged letter w) ≤ 16
-short letter w h = omega (arith, length_push w 41, h.few)
-
-atom_plain : (c : ℕ) → atom c ≡ true → Plain c
-atom_plain c h = ((λ e. absurd (no_atom c 40 e refl h)), (λ e. absurd (no_atom c 41 e refl h)), (λ e. absurd (no_atom c 10 e refl h)))
-  where
-    no_atom : (c d : ℕ) → c ≡ d → atom d ≡ false → atom c ≢ true
-    no_atom c d e f h = true≢false (sym h ∙ (ap atom e ∙ f))
-
-pub bracketed : (letter : ℕ) (w : List ℕ) → atom letter ≡ true → Worded w → Bracketed (tagged letter w)
-bracketed letter w l h = record {
-  inside = letter ∷ 32 ∷ w;
-  is = refl;
-  plain = (atom_plain letter l, (((λ e. omega arith), (λ e. omega arith), (λ e. omega arith)), All-weaker (λ c. atom c ≡ true) Plain atom_plain w h.atoms));
-}
 
 -- tokens in the places of a form, put together again
 three : (ts : List Tok) → length ts ≡ 3 → flat_map text ts ≡ text (slice_index_or ts 0 end) ++ (text (slice_index_or ts 1 end) ++ (text (slice_index_or ts 2 end) ++ []))
@@ -112,17 +96,10 @@ joined_lone letter ts h =
 
 pub joined_tagged : (letter : ℕ) (ts : List Tok) (w : List ℕ) → tagged_part letter ts ≡ Some w → flat_map text ts ≡ tagged letter w
 joined_tagged letter ts w e =
-    ⊎_elim
-    (λ h.
-    let p = and_parts (length ts == 5) _ h in
+    let o = present _ (part_of (slice_index_or ts 3 end)) w e in
+    let p = and_parts (length ts == 5) _ o.0 in
     let q = and_parts (is_mark 40 (slice_index_or ts 0 end)) _ p.1 in
     let r = and_parts (is_letter letter (slice_index_or ts 1 end)) _ q.1 in
     let s = and_parts (is_mark 32 (slice_index_or ts 2 end)) (is_mark 41 (slice_index_or ts 4 end)) r.1 in
-    let is : part_of (slice_index_or ts 3 end) ≡ Some w = sym (cond-true _ (part_of (slice_index_or ts 3 end)) None h) ∙ e in
     five ts (eqb-true (length ts) 5 p.0)
-    ∙ (λ i. text_mark 40 (slice_index_or ts 0 end) q.0 i ++ (text_letter letter (slice_index_or ts 1 end) r.0 i ++ (text_mark 32 (slice_index_or ts 2 end) s.0 i ++ (text_part (slice_index_or ts 3 end) w is i ++ (text_mark 41 (slice_index_or ts 4 end) s.1 i ++ []))))))
-    (λ o.
-    let g : None ≡ Some w = sym (cond-false _ (part_of (slice_index_or ts 3 end)) None o) ∙ e in
-    let z : ◌≡◌ {A = ℕ} 0 1 = cc in
-    absurd (omega arith))
-    (cases_Bool (length ts == 5 && (is_mark 40 (slice_index_or ts 0 end) && (is_letter letter (slice_index_or ts 1 end) && (is_mark 32 (slice_index_or ts 2 end) && is_mark 41 (slice_index_or ts 4 end))))))
+    ∙ (λ i. text_mark 40 (slice_index_or ts 0 end) q.0 i ++ (text_letter letter (slice_index_or ts 1 end) r.0 i ++ (text_mark 32 (slice_index_or ts 2 end) s.0 i ++ (text_part (slice_index_or ts 3 end) w o.1 i ++ (text_mark 41 (slice_index_or ts 4 end) s.1 i ++ [])))))

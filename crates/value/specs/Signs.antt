@@ -1,90 +1,29 @@
 -- Whole numbers of 32 bits: what their parts are read as, and that numbers and parts go back and forth.
-use Rattle.std.specs.Prelude.{◌≡◌, ℕ, zero, suc, ◌-◌, ◌^◌, ◌<◌, ◌≤◌, true, cond, ◌&&◌, List, [], ◌∷◌, length, take, drop, ℤ, pos, negsuc, neg_ℤ, Some, None, Ok, Err, decimal, Option, FitsSigned, ◌==◌, ◌≢◌, nat_le, slice_index, refl}
-use Rattle.std.proofs.Common.{sym, ap, ◌∙◌, ⊎_elim, arith, lit<, of_z, to_z}
-use Rattle.std.proofs.Math.Nat.{pow-le-pow_right}
-use Rattle.std.specs.Str.Parse.{digits_value}
-use Rattle.std.specs.Int.{IsInRange, w32}
+use Rattle.std.specs.Prelude.{◌≡◌, ℕ, zero, suc, ◌^◌, ◌<◌, true, cond, List, [], ◌∷◌, drop, ℤ, pos, negsuc, Some, None, Ok, Err, decimal, Option, ◌==◌, ◌≢◌, nat_le, slice_index, refl}
+use Rattle.std.proofs.Common.{sym, ap, ◌∙◌, ⊎_elim, arith, lit<}
+use Rattle.std.specs.Int.{IsInRange}
 use Rattle.std.specs.List.{AllByRecursion}
-use Rattle.std.specs.Str.{all_ascii_digits}
 use Rattle.std.specs.Fmt.{signed_decimal}
-use Rattle.std.proofs.lemmas.Int.{to_z-of_z}
-use Rattle.std.proofs.lemmas.List.{take_rest}
-use Rattle.std.proofs.lemmas.Bool.{cond-true, cond-false, eq-eqb, ne_eqb, eqb-true, le-leb, lt-leb, leb-true, lt-ltb, ltb-true, and_parts, cases_Bool, cases_lt}
+use Rattle.std.proofs.lemmas.Bool.{cond-true, cond-false, ne_eqb, eqb-true, le-leb, leb-true, lt-ltb, ltb-true, cases_Bool}
 use Rattle.std.proofs.lemmas.Bool.Decides.{nat_tests}
 use Rattle.std.proofs.ByRecursion.{All-get_or, All-from_get_or, All-weaker}
 use Rattle.std.proofs.lemmas.Str.Parse.{digit_at}
-use Rattle.std.proofs.lemmas.Fmt.{decimal-digits_value, digits_decimal, digits_value-decimal, decimal_nonempty, length-decimal-le, first_decimal, decimal_digit}
-use Rattle.std.proofs.lemmas.Int.Digits.{digits_value-lt}
-use Rattle.text.specs.Number.{tidy, numeral}
+use Rattle.std.proofs.lemmas.Fmt.{digits_decimal, decimal_nonempty, length-decimal-le}
+use Rattle.text.specs.Number.{numeral}
 use Rattle.text.specs.Tokens.{atom}
-use Rattle.text.proofs.Numerals.{own, named}
-use Rattle.value.specs.declared.codes.Fault.TheVariants.{Form, Bound}
+use Rattle.text.proofs.Numerals.{own}
+use Rattle.value.specs.declared.codes.Fault.TheVariants.{Bound}
 use Rattle.value.specs.Counts.{in_32, natural, negative, integer}
+use Rattle.value.specs.Answers.{passed}
+use Rattle.value.specs.Decimals.{numeral_decimal, decimal_from_numeral}
 use Rattle.value.specs.Places.{Worded}
-
--- a part with a minus in front is read by what follows it
-pub after_minus : (bs : List ℕ) (r : Option ℕ) → slice_index bs 0 ≡ 45 → r ≡ numeral (take (length bs - 1) (drop 1 bs)) → negative r ≡ integer bs
-after_minus bs r m e =
-    ap negative (e ∙ ap numeral (take_rest bs 1)) ∙ sym (cond-true (slice_index bs 0 == 45) (negative (numeral (drop 1 bs))) (natural (numeral bs)) (eq-eqb _ 45 m))
-
-pub minus_zero : (n : ℕ) → n ≡ 0 → negative (Some n) ≡ Err Form
-minus_zero n h = cond-true (n == 0) _ _ (eq-eqb n 0 h)
-
--- the number as the code holds it, by its bits
-pub minus_in : (n : ℕ) (z : ℤ) → (n ≢ 0) → n ≤ 2147483648 → z ≡ neg_ℤ (pos n) → FitsSigned w32 z → negative (Some n) ≡ Ok (to_z w32 (of_z w32 z))
-minus_in n z o h e f =
-    cond-false (n == 0) _ _ (ne_eqb n 0 o) ∙ (cond-true (nat_le n 2147483648) _ _ (le-leb n 2147483648 h) ∙ ap Ok (sym e ∙ sym (to_z-of_z w32 z f)))
-
-pub minus_past : (n : ℕ) → 2147483648 < n → negative (Some n) ≡ Err Bound
-minus_past n h =
-    cond-false (n == 0) _ _ (ne_eqb n 0 (λ e. omega arith)) ∙ cond-false (nat_le n 2147483648) _ _ (lt-leb n 2147483648 h)
-
--- a number of up to ten digits as it is written
-small : (n : ℕ) → n < 10 ^ 10 → n < 2 ^ 64
-small n h = omega arith
-
-tidy_decimal : (n : ℕ) → n < 10 ^ 10 → tidy (decimal n) ≡ true
-tidy_decimal n h =
-    ⊎_elim
-    (λ (more : 0 < n). cond-false (slice_index (decimal n) 0 == 48) _ _ (ne_eqb _ 48 (λ e. omega (arith, first_decimal n more (small n h)))))
-    (λ (none : n ≤ 0). let e : n ≡ 0 = omega arith in ap (λ k. tidy (decimal k)) e ∙ ap tidy (decimal_digit 0 (lit< tt)))
-    (cases_lt 0 n)
-
-numeral_decimal : (n : ℕ) → n < 10 ^ 10 → numeral (decimal n) ≡ Some n
-numeral_decimal n h =
-    named (decimal n) (decimal_nonempty n (small n h)) (length-decimal-le 10 n (lit< tt) h (small n h)) (tidy_decimal n h) (digits_decimal own n (small n h))
-    ∙ ap Some (digits_value-decimal own n (small n h))
-
--- and what it is read from
-lead : (bs : List ℕ) → tidy bs ≡ true → slice_index bs 0 ≡ 48 → length bs ≡ 1
-lead bs t e = eqb-true (length bs) 1 (sym (cond-true (slice_index bs 0 == 48) (length bs == 1) true (eq-eqb _ 48 e)) ∙ t)
-
-decimal_numeral : (bs : List ℕ) (n : ℕ) → numeral bs ≡ Some n → bs ≡ decimal n
-decimal_numeral bs n e =
-    ⊎_elim
-    (λ y.
-    let p = and_parts (nat_le 1 (length bs)) _ y in
-    let q = and_parts (nat_le (length bs) 10) _ p.1 in
-    let r = and_parts (tidy bs) (all_ascii_digits bs) q.1 in
-    let some : 1 ≤ length bs = leb-true 1 (length bs) p.0 in
-    let few : length bs ≤ 10 = leb-true (length bs) 10 q.0 in
-    let f : Some (digits_value 10 bs) ≡ Some n = sym (cond-true _ (Some (digits_value 10 bs)) None y) ∙ e in
-    let is : digits_value 10 bs ≡ n = cc in
-    let low : digits_value 10 bs < 10 ^ length bs = digits_value-lt 10 bs (own.to bs r.1) in
-    let top : 10 ^ length bs ≤ 10 ^ 10 = pow-le-pow_right (lit< tt) few in
-    sym (decimal-digits_value own bs r.1 some (lead bs r.0) (omega arith)) ∙ ap decimal is)
-    (λ o.
-    let g : None ≡ Some n = sym (cond-false _ (Some (digits_value 10 bs)) None o) ∙ e in
-    let z : ◌≡◌ {A = ℕ} 0 1 = cc in
-    absurd (omega arith))
-    (cases_Bool (nat_le 1 (length bs) && (nat_le (length bs) 10 && (tidy bs && all_ascii_digits bs))))
 
 -- the bytes of a number are digits
 digit_bytes : (n : ℕ) → n < 10 ^ 10 → AllByRecursion (IsInRange 48 57) (decimal n)
-digit_bytes n h = All-from_get_or (IsInRange 48 57) (decimal n) 0 (λ i l. digit_at (decimal n) i (own.to (decimal n) (digits_decimal own n (small n h))) l)
+digit_bytes n h = All-from_get_or (IsInRange 48 57) (decimal n) 0 (λ i l. digit_at (decimal n) i (own.to (decimal n) (digits_decimal own n (omega arith))) l)
 
 no_minus : (n : ℕ) → n < 10 ^ 10 → slice_index (decimal n) 0 ≢ 45
-no_minus n h e = let d = All-get_or (IsInRange 48 57) (decimal n) 0 0 (decimal_nonempty n (small n h)) (digit_bytes n h) in omega arith
+no_minus n h e = let d = All-get_or (IsInRange 48 57) (decimal n) 0 0 (decimal_nonempty n (omega arith)) (digit_bytes n h) in omega arith
 
 negative_suc : (n : ℕ) → negative (Some (suc n)) ≡ cond (nat_le (suc n) 2147483648) (Ok (negsuc n)) (Err Bound)
 negative_suc n = cond-false (suc n == 0) _ _ (ne_eqb (suc n) 0 (λ e. omega arith))
@@ -99,31 +38,17 @@ integer_signed (negsuc n) h =
     ap negative (numeral_decimal (suc n) (omega arith)) ∙ (negative_suc n ∙ cond-true (nat_le (suc n) 2147483648) _ _ (le-leb (suc n) 2147483648 l))
 
 natural_ok : (r : Option ℕ) (z : ℤ) → natural r ≡ Ok z → (n : ℕ) × (r ≡ Some n) × (n < 2147483648) × (z ≡ pos n)
-natural_ok None z e = absurd (let o : ◌≡◌ {A = ℕ} 0 1 = cc in omega arith)
+natural_ok None z e = absurd cc
 natural_ok (Some n) z e =
-    ⊎_elim
-    (λ y.
-    let f : Ok (pos n) ≡ Ok z = sym (cond-true (nat_le n 2147483647) (Ok (pos n)) (Err Bound) y) ∙ e in
-    (n, refl, omega (arith, leb-true n 2147483647 y), cc))
-    (λ o.
-    let f : Err Bound ≡ Ok z = sym (cond-false (nat_le n 2147483647) (Ok (pos n)) (Err Bound) o) ∙ e in
-    let i : ◌≡◌ {A = ℕ} 0 1 = cc in
-    absurd (omega arith))
-    (cases_Bool (nat_le n 2147483647))
+    let p = passed (nat_le n 2147483647) (Ok (pos n)) Bound z e in
+    (n, refl, omega (arith, leb-true n 2147483647 p.0), cc)
 
 negative_ok : (r : Option ℕ) (z : ℤ) → negative r ≡ Ok z → (n : ℕ) × (r ≡ Some (suc n)) × (n < 2147483648) × (z ≡ negsuc n)
-negative_ok None z e = absurd (let o : ◌≡◌ {A = ℕ} 0 1 = cc in omega arith)
-negative_ok (Some zero) z e = absurd (let o : ◌≡◌ {A = ℕ} 0 1 = cc in omega arith)
+negative_ok None z e = absurd cc
+negative_ok (Some zero) z e = absurd cc
 negative_ok (Some (suc n)) z e =
-    ⊎_elim
-    (λ y.
-    let f : Ok (negsuc n) ≡ Ok z = sym (negative_suc n ∙ cond-true (nat_le (suc n) 2147483648) (Ok (negsuc n)) (Err Bound) y) ∙ e in
-    (n, refl, omega (arith, leb-true (suc n) 2147483648 y), cc))
-    (λ o.
-    let f : Err Bound ≡ Ok z = sym (negative_suc n ∙ cond-false (nat_le (suc n) 2147483648) (Ok (negsuc n)) (Err Bound) o) ∙ e in
-    let i : ◌≡◌ {A = ℕ} 0 1 = cc in
-    absurd (omega arith))
-    (cases_Bool (nat_le (suc n) 2147483648))
+    let p = passed (nat_le (suc n) 2147483648) (Ok (negsuc n)) Bound z (sym (negative_suc n) ∙ e) in
+    (n, refl, omega (arith, leb-true (suc n) 2147483648 p.0), cc)
 
 from_minus : (bs : List ℕ) → slice_index bs 0 ≡ 45 → bs ≡ 45 ∷ drop 1 bs
 from_minus [] e = absurd (omega arith)
@@ -134,10 +59,10 @@ signed_integer bs z e =
     ⊎_elim
     (λ y.
     let r = negative_ok (numeral (drop 1 bs)) z (sym (cond-true (slice_index bs 0 == 45) (negative (numeral (drop 1 bs))) (natural (numeral bs)) y) ∙ e) in
-    (ap in_32 r.3 ∙ lt-ltb r.0 2147483648 r.2, from_minus bs (eqb-true _ 45 y) ∙ (ap (λ l. 45 ∷ l) (decimal_numeral (drop 1 bs) (suc r.0) r.1) ∙ ap signed_decimal (sym r.3))))
+    (ap in_32 r.3 ∙ lt-ltb r.0 2147483648 r.2, from_minus bs (eqb-true _ 45 y) ∙ (ap (λ l. 45 ∷ l) ((decimal_from_numeral (drop 1 bs) (suc r.0) r.1).0) ∙ ap signed_decimal (sym r.3))))
     (λ o.
     let r = natural_ok (numeral bs) z (sym (cond-false (slice_index bs 0 == 45) (negative (numeral (drop 1 bs))) (natural (numeral bs)) o) ∙ e) in
-    (ap in_32 r.3 ∙ lt-ltb r.0 2147483648 r.2, decimal_numeral bs r.0 r.1 ∙ ap signed_decimal (sym r.3)))
+    (ap in_32 r.3 ∙ lt-ltb r.0 2147483648 r.2, (decimal_from_numeral bs r.0 r.1).0 ∙ ap signed_decimal (sym r.3)))
     (cases_Bool (slice_index bs 0 == 45))
 
 digits_atoms : (bs : List ℕ) → AllByRecursion (IsInRange 48 57) bs → AllByRecursion (λ c. atom c ≡ true) bs

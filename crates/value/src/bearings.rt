@@ -48,22 +48,20 @@ fn is_held(x: f32) -> bool
 }
 
 // The bearing whose bits the part writes in hexadecimal digits.
+#[tactic(auto, using(crate::specs::Floats::nan_past, crate::specs::Floats::no_nan))]
 pub fn read_bearing(part: &[u8]) -> Result<f32, Fault>
     ensures { result ≡ bearing_at (hexed part.now) }
 {
-    match read_hex(part) {
-        None => Err(Fault::Form),
-        Some(bits) => {
-            if bits % SIGN > INFINITY {
-                return Err(Fault::Bound);
-            }
-            let x = f32::from_bits(bits);
-            if is_held(x) { Ok(x) } else { Err(Fault::Bound) }
-        }
+    let bits = read_hex(part).ok_or(Fault::Form)?;
+    if bits % SIGN > INFINITY {
+        return Err(Fault::Bound);
     }
+    let x = f32::from_bits(bits);
+    if is_held(x) { Ok(x) } else { Err(Fault::Bound) }
 }
 
 // `(a BITS)`, for a bearing that a sheet may hold.
+#[tactic(auto, using(crate::proofs::Writing::closing_hex))]
 pub fn spell_bearing(x: f32) -> Option<Line>
     ensures { option_map spelt result ≡ bearing_form x }
 {
@@ -71,7 +69,7 @@ pub fn spell_bearing(x: f32) -> Option<Line>
         return None;
     }
     let mut line = opened(b'a');
-    push_hex(&mut line, 8, x.to_bits());
+    push_hex(&mut line, x.to_bits());
     line.push(b')');
     Some(line)
 }

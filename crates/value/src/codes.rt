@@ -1,91 +1,76 @@
-ghost use Rattle.std.specs.Prelude.{◌≡◌, Some};
-ghost use Rattle.value.specs.declared.codes.Operation.{Operation};
-ghost use Rattle.value.specs.Codes.{cause_number, fault_number, operation_number, operation_at};
+ghost use Rattle.std.specs.Prelude.{◌≡◌};
+ghost use Rattle.value.specs.Codes.{cause_number, fault_number, operation_number, NumberRead};
 
 // What an operation does with two values of a kind.
-#[derive(Clone, Copy)]
+#[derive(Clone, Copy, PartialEq, Eq, Debug)]
 pub enum Operation {
-    Sum,
-    Difference,
-    Smaller,
-    Equal,
-    Less,
-    Quotient,
+    Sum = 0,
+    Difference = 1,
+    Smaller = 2,
+    Equal = 3,
+    Less = 4,
+    Quotient = 5,
 }
 
 // Why an operation has no value.
-#[derive(Clone, Copy)]
+#[derive(Clone, Copy, PartialEq, Eq, Debug)]
 pub enum Cause {
-    ZeroDivisor,
-    Overflow,
-    Blank,
-    Mixed,
-    OutOfRange,
+    ZeroDivisor = 1,
+    Overflow = 2,
+    Blank = 3,
+    Mixed = 4,
+    OutOfRange = 5,
 }
 
 // Why bytes in a value's place are no value: no such form, or a form past its bound.
-#[derive(Clone, Copy)]
+#[derive(Clone, Copy, PartialEq, Eq, Debug)]
 pub enum Fault {
-    Form,
-    Bound,
+    Form = 3,
+    Bound = 4,
 }
 
-impl Operation {
-    // The number that a sheet has for the operation.
-    pub fn number(self) -> u8
-        ensures { result ≡ operation_number self }
-    {
-        match self {
-            Operation::Sum => 0,
-            Operation::Difference => 1,
-            Operation::Smaller => 2,
-            Operation::Equal => 3,
-            Operation::Less => 4,
-            Operation::Quotient => 5,
-        }
-    }
+// The number that a sheet has for the operation.
+impl From<Operation> for u8 {
+    ghost from_gives = { λ operation n. n ≡ operation_number operation };
 
-    // The operation that has the number.
-    pub fn from_number(n: u64) -> Option<Operation>
-        ensures value { result ≡ operation_at n }
-        ensures there { (op : Operation) → result ≡ Some op → operation_number op ≡ n }
-        ensures back { (op : Operation) → operation_number op ≡ n → result ≡ Some op }
-    {
+    fn from(operation: Operation) -> u8 {
+        operation as u8
+    }
+}
+
+// The operation that has the number.
+impl TryFrom<u64> for Operation {
+    type Error = Fault;
+
+    ghost try_from_gives = { NumberRead };
+
+    fn try_from(n: u64) -> Result<Operation, Fault> {
         match n {
-            0 => Some(Operation::Sum),
-            1 => Some(Operation::Difference),
-            2 => Some(Operation::Smaller),
-            3 => Some(Operation::Equal),
-            4 => Some(Operation::Less),
-            5 => Some(Operation::Quotient),
-            _ => None,
+            0 => Ok(Operation::Sum),
+            1 => Ok(Operation::Difference),
+            2 => Ok(Operation::Smaller),
+            3 => Ok(Operation::Equal),
+            4 => Ok(Operation::Less),
+            5 => Ok(Operation::Quotient),
+            _ => Err(Fault::Bound),
         }
     }
 }
 
-impl Cause {
-    // The number that a sheet has for the cause.
-    pub fn number(self) -> u8
-        ensures { result ≡ cause_number self }
-    {
-        match self {
-            Cause::ZeroDivisor => 1,
-            Cause::Overflow => 2,
-            Cause::Blank => 3,
-            Cause::Mixed => 4,
-            Cause::OutOfRange => 5,
-        }
+// The number that a sheet has for the cause.
+impl From<Cause> for u8 {
+    ghost from_gives = { λ cause n. n ≡ cause_number cause };
+
+    fn from(cause: Cause) -> u8 {
+        cause as u8
     }
 }
 
-impl Fault {
-    // The number that the reader of a sheet gives.
-    pub fn number(self) -> u8
-        ensures { result ≡ fault_number self }
-    {
-        match self {
-            Fault::Form => 3,
-            Fault::Bound => 4,
-        }
+// The number that the reader of a sheet gives.
+impl From<Fault> for u8 {
+    ghost from_gives = { λ fault n. n ≡ fault_number fault };
+
+    fn from(fault: Fault) -> u8 {
+        fault as u8
     }
 }

@@ -1,21 +1,17 @@
-ghost use Rattle.std.specs.Prelude.{◌≡◌, ◌^◌, ◌≤◌, [], ◌∷◌, length, pos, neg_ℤ};
+ghost use Rattle.std.specs.Prelude.{◌≡◌, ◌^◌, ◌≤◌, [], ◌∷◌, map, pos, neg_ℤ};
 ghost use Rattle.std.specs.Option.{option_map};
 ghost use Rattle.std.specs.Fmt.{signed_decimal};
 ghost use Rattle.text.specs.Line.{spelt, added};
+ghost use Rattle.text.specs.Tokens.{seen};
 ghost use Rattle.value.specs.Counts.{integer};
-ghost use Rattle.value.specs.Forms.{tagged, tagged_at, lone_at, seen_at};
+ghost use Rattle.value.specs.Forms.{tagged, tagged_part, lone};
 
 use crate::codes::Fault;
 use text::{Line, Token, number};
 
-// The largest number of 32 bits with a sign, and the least without its minus.
-const LARGEST: u64 = 0x7fff_ffff;
-
-const LEAST: u64 = 0x8000_0000;
-
 // The part of `(L PART)`, where the tokens are those of the letter's form.
 pub fn part_after<'a>(letter: u8, tokens: &[Token<'a>]) -> Option<&'a [u8]>
-    ensures { option_map (λ x. x.now) result ≡ tagged_at letter (length tokens.now) (seen_at tokens.now) }
+    ensures { option_map (λ x. x.now) result ≡ tagged_part letter (map seen tokens.now) }
 {
     match tokens {
         [
@@ -31,44 +27,25 @@ pub fn part_after<'a>(letter: u8, tokens: &[Token<'a>]) -> Option<&'a [u8]>
 
 // Whether the tokens are those of `(e)`.
 pub fn is_blank(tokens: &[Token]) -> bool
-    ensures { result ≡ lone_at 101 (length tokens.now) (seen_at tokens.now) }
+    ensures { result ≡ lone 101 (map seen tokens.now) }
 {
-    match tokens {
-        [Token::Mark(b'('), Token::Word(b"e"), Token::Mark(b')')] => true,
-        _ => false,
-    }
-}
-
-fn negated(n: u64) -> i32
-    requires { n ≤ 2 ^ 31 }
-    ensures { result ≡ neg_ℤ (pos n) }
-{
-    (-(n as i64)) as i32
+    matches!(
+        tokens,
+        [Token::Mark(b'('), Token::Word(b"e"), Token::Mark(b')')]
+    )
 }
 
 // The number that the part writes, with a minus in front of one below 0.
 pub fn read_integer(part: &[u8]) -> Result<i32, Fault>
     ensures { result ≡ integer part.now }
 {
-    match part {
-        [b'-', ..] => match number(&part[1..]) {
-            None => Err(Fault::Form),
-            Some(n) => if n == 0 {
-                Err(Fault::Form)
-            } else if n <= LEAST {
-                Ok(negated(n))
-            } else {
-                Err(Fault::Bound)
-            },
-        },
-        _ => match number(part) {
-            None => Err(Fault::Form),
-            Some(n) => if n <= LARGEST {
-                Ok(n as i32)
-            } else {
-                Err(Fault::Bound)
-            },
-        },
+    let Some(digits) = part.strip_prefix(b"-") else {
+        let n = number(part).ok_or(Fault::Form)?;
+        return i32::try_from(n).map_err(|_| Fault::Bound);
+    };
+    match number(digits) {
+        None | Some(0) => Err(Fault::Form),
+        Some(n) => i32::try_from(-i128::from(n)).map_err(|_| Fault::Bound),
     }
 }
 
@@ -77,12 +54,11 @@ pub fn opened(letter: u8) -> Line
     ensures { spelt result ≡ 40 ∷ letter ∷ 32 ∷ [] }
 {
     let mut line = Line::new();
-    line.push(b'(');
-    line.push(letter);
-    line.push(b' ');
+    line.extend(&[b'(', letter, b' ']);
     line
 }
 
+#[tactic(auto, using(std::proofs::lemmas::Int::wraps, crate::proofs::Writing::with_minus, crate::proofs::Writing::without_minus))]
 fn push_integer(line: &mut Line, z: i32)
     ensures { spelt line.new ≡ added (spelt line.old) (signed_decimal z) }
 {
@@ -93,6 +69,7 @@ fn push_integer(line: &mut Line, z: i32)
 }
 
 // `(n Z)`.
+#[tactic(auto, using(std::proofs::lemmas::Int::wraps, crate::proofs::Writing::closing_count))]
 pub fn spell_integer(z: i32) -> Line
     ensures { spelt result ≡ tagged 110 (signed_decimal z) }
 {

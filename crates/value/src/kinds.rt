@@ -11,8 +11,9 @@ ghost use Rattle.value.specs.declared.codes.Operation.{Operation};
 use crate::codes::{Cause, Fault, Operation};
 use text::{Line, Token};
 
-// A kind of value. Its ghost members are its meaning, and each function answers just that.
+// A kind of value. Its ghost members are its meaning, which its constant and its functions give.
 pub trait Kind: Copy + Drop {
+    // the value of registers and cells that nothing was put in
     const ZERO: Self;
 
     ghost ZERO: { Self };

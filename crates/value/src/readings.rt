@@ -1,7 +1,7 @@
 ghost use Rattle.std.specs.Prelude.{◌≡◌, [], ◌∷◌, refl};
 ghost use Rattle.text.specs.Line.{spelt};
 ghost use Rattle.value.specs.Readings.{reading_zero, reading_truth, reading_outcome, reading_form, reading_reads, bearings};
-ghost use Rattle.value.specs.Laws.{apart_by};
+ghost use Rattle.value.specs.Answers.{apart_by};
 ghost use Rattle.value.specs.Forms.{lone};
 ghost use Rattle.value.specs.ReadingKindLemmas;
 
@@ -13,7 +13,7 @@ use crate::kinds::Kind;
 use text::{Line, Token};
 
 // What an instrument gave: nothing, a count, or a bearing in degrees.
-#[derive(Clone, Copy)]
+#[derive(Clone, Copy, PartialEq, Debug)]
 pub enum Reading {
     Blank,
     Count(i32),
@@ -24,19 +24,15 @@ pub enum Reading {
 fn combine_bearings(op: Operation, a: f32, b: f32) -> Result<Reading, Cause>
     ensures { result ≡ bearings op a b }
 {
-    if let Operation::Quotient = op {
-        return Err(Cause::Mixed);
-    }
-    if !(is_on_circle(a) && is_on_circle(b)) {
-        return Err(Cause::OutOfRange);
-    }
     match op {
+        Operation::Quotient => Err(Cause::Mixed),
+        _ if !(is_on_circle(a) && is_on_circle(b)) => Err(Cause::OutOfRange),
         Operation::Sum => Ok(Reading::Bearing(turn_on(a, b))),
         Operation::Difference => Ok(Reading::Bearing(turn_back(a, b))),
+        // kept: the first of 0 and minus zero, between which `min` leaves the choice open
         Operation::Smaller => Ok(Reading::Bearing(if a <= b { a } else { b })),
-        Operation::Equal => Ok(Reading::Count(if a == b { 1 } else { 0 })),
-        Operation::Less => Ok(Reading::Count(if a < b { 1 } else { 0 })),
-        Operation::Quotient => Err(Cause::Mixed),
+        Operation::Equal => Ok(Reading::Count(i32::from(a == b))),
+        Operation::Less => Ok(Reading::Count(i32::from(a < b))),
     }
 }
 
@@ -72,6 +68,7 @@ impl Kind for Reading {
 
     ghost there = { λ v ts e. ReadingKindLemmas.there v ts (lone 101 ts) refl e };
 
+    // kept: a match and no test: each case has a truth of its own.
     fn is_true(self) -> bool {
         match self {
             Reading::Blank => false,

@@ -1,5 +1,5 @@
 ghost use Rattle.value.specs.Wholes.{whole_zero, whole_truth, whole_outcome, whole_form, whole_reads};
-ghost use Rattle.value.specs.Laws.{count_owed, apart_by};
+ghost use Rattle.value.specs.Answers.{apart_by};
 ghost use Rattle.value.specs.WholeKindLemmas;
 ghost use Rattle.std.specs.Prelude.{refl};
 ghost use Rattle.value.specs.Forms.{tagged_part};
@@ -11,7 +11,7 @@ use crate::kinds::Kind;
 use text::{Line, Token};
 
 // A whole number of 32 bits with a sign.
-#[derive(Clone, Copy)]
+#[derive(Clone, Copy, PartialEq, Eq, Debug)]
 pub struct Whole {
     pub value: i32,
 }
@@ -29,9 +29,9 @@ impl Kind for Whole {
 
     ghost reads = { whole_reads };
 
-    ghost short = { λ v bs e. (count_owed v.value bs e).short };
+    ghost short = { λ v bs e. WholeKindLemmas.short v bs e };
 
-    ghost bracketed = { λ v bs e. (count_owed v.value bs e).bracketed };
+    ghost bracketed = { λ v bs e. WholeKindLemmas.bracketed v bs e };
 
     ghost apart = { λ v w bs e f. apart_by whole_reads bs v w (WholeKindLemmas.back v bs e) (WholeKindLemmas.back w bs f) };
 
@@ -49,9 +49,7 @@ impl Kind for Whole {
     }
 
     fn read(tokens: &[Token]) -> Result<Whole, Fault> {
-        let Some(part) = part_after(b'n', tokens) else {
-            return Err(Fault::Form);
-        };
+        let part = part_after(b'n', tokens).ok_or(Fault::Form)?;
         let value = read_integer(part)?;
         Ok(Whole { value })
     }

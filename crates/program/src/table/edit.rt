@@ -1,8 +1,8 @@
-ghost use Rattle.std.specs.Prelude.{◌≡◌, ◌&&◌, [], ◌∷◌, ◌++◌, length, if◌then◌else◌, sum_by, nat_lt};
+ghost use Rattle.std.specs.Prelude.{◌≡◌, ◌&&◌, [], ◌∷◌, ◌++◌, length, if◌then◌else◌, is_ok, sum_by, nat_lt};
 ghost use Rattle.program.specs.Code.{on_last};
 ghost use Rattle.program.specs.Program.{code};
 
-use super::Program;
+use super::{Full, Program, Span};
 use crate::Op;
 
 impl Program {
@@ -13,40 +13,41 @@ impl Program {
         Program {
             ops: [Op::Finish; 1024],
             used: 0,
-            firsts: [0; 16],
-            lens: [0; 16],
+            spans: [Span { first: 0, len: 0 }; 16],
             count: 0,
         }
     }
 
-    // One more task, with no operation yet; false where there are 16.
-    pub fn add_task(&mut self) -> bool
-        ensures value { result ≡ nat_lt (length (code self.old)) 16 }
-        ensures after { code self.new ≡ (if result then code self.old ++ ([] ∷ []) else code self.old) }
+    // One more task, with no operation yet, unless there are 16.
+    pub fn add_task(&mut self) -> Result<(), Full>
+        ensures value { is_ok result ≡ nat_lt (length (code self.old)) 16 }
+        ensures after { code self.new ≡ (if is_ok result then code self.old ++ ([] ∷ []) else code self.old) }
     {
         let t = self.count;
         if t >= 16 {
-            return false;
+            return Err(Full);
         }
-        self.firsts[t] = self.used as u16;
-        self.lens[t] = 0;
+        self.spans[t] = Span {
+            first: self.used as u16,
+            len: 0,
+        };
         self.count = t + 1;
-        true
+        Ok(())
     }
 
-    // One more operation of the last task; false where there is no task, or 1,024 operations.
-    pub fn add_op(&mut self, op: Op) -> bool
-        ensures value { result ≡ (nat_lt 0 (length (code self.old)) && nat_lt (sum_by length (code self.old)) 1024) }
-        ensures after { code self.new ≡ (if result then on_last (code self.old) op else code self.old) }
+    // One more operation of the last task, unless there is no task, or there are 1,024 operations.
+    pub fn add_op(&mut self, op: Op) -> Result<(), Full>
+        ensures value { is_ok result ≡ (nat_lt 0 (length (code self.old)) && nat_lt (sum_by length (code self.old)) 1024) }
+        ensures after { code self.new ≡ (if is_ok result then on_last (code self.old) op else code self.old) }
     {
         let t = self.count;
         let n = self.used;
         if t == 0 || n >= 1024 {
-            return false;
+            return Err(Full);
         }
         self.ops[n] = op;
         self.used = n + 1;
-        self.lens[t - 1] += 1;
-        true
+        self.spans[t - 1].len += 1;
+        Ok(())
     }
 }

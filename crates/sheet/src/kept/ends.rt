@@ -1,4 +1,4 @@
-ghost use Rattle.std.specs.Prelude.{◌≡◌, ◌≤◌, [], length, slice_index_or};
+ghost use Rattle.std.specs.Prelude.{◌≡◌, ◌≤◌, length};
 ghost use Rattle.program.specs.Program.{code};
 ghost use Rattle.sheet.specs.Ends.{closes as closing, closed, lands as landing, first_open, stray_in, first_stray};
 
@@ -8,64 +8,53 @@ use program::{Op, Program};
 fn closes(op: Op) -> bool
     ensures { result ≡ closing op }
 {
-    match op {
-        Op::Finish | Op::Jump { .. } => true,
-        _ => false,
-    }
+    matches!(&op, Op::Finish | Op::Jump { .. })
 }
 
 // In a task of so many operations, the operation leads to a place or a task that is given.
+// kept: a match and no test: what is compared hangs on the operation.
 fn lands(op: Op, len: usize, tasks: usize) -> bool
     ensures { result ≡ landing len tasks op }
 {
     match op {
-        Op::Jump { target } => (target as usize) < len,
-        Op::JumpIfFalse { target, .. } => (target as usize) < len,
+        Op::Jump { target } | Op::JumpIfFalse { target, .. } => (target as usize) < len,
         Op::Start { task } => (task as usize) < tasks,
         _ => true,
     }
 }
 
 // A task has an operation, and its last one closes it.
-fn is_closed(program: &Program, t: usize) -> bool
-    ensures { result ≡ closed (slice_index_or (code program.now) t []) }
+fn is_closed(ops: &[Op]) -> bool
+    ensures { result ≡ closed ops.now }
 {
-    let len = program.len(t);
-    if len == 0 {
-        return false;
-    }
-    closes(program.op(t, len - 1))
+    ops.last().is_some_and(|op| closes(*op))
 }
 
 // The line of the first task that is empty or goes on past its end; the first task stands on line `first`.
+// kept: two loops with a running line, here and below: over a closure each would ask a bound of the line and be no plainer.
 pub(super) fn open_task(program: &Program, first: usize) -> Option<usize>
     requires { first ≤ 65536 }
     ensures { result ≡ first_open first (code program.now) }
 {
     let mut line = first;
-    let tasks = program.tasks();
-    for t in 0..tasks {
-        if !is_closed(program, t) {
+    for t in 0..program.tasks() {
+        let ops = program.ops(t);
+        if !is_closed(ops) {
             return Some(line);
         }
-        line = line + 1 + program.len(t);
+        line += 1 + ops.len();
     }
     None
 }
 
 // The line of a task's first operation that leads nowhere; its operations begin on line `first`.
-fn stray_op(program: &Program, t: usize, first: usize) -> Option<usize>
-    requires { first ≤ 131072 }
-    ensures { result ≡ stray_in (length (slice_index_or (code program.now) t [])) (length (code program.now)) first (slice_index_or (code program.now) t []) }
+fn stray_op(ops: &[Op], tasks: usize, first: usize) -> Option<usize>
+    requires near { first ≤ 131072 }
+    requires few { length ops.now ≤ 1024 }
+    ensures { result ≡ stray_in (length ops.now) tasks first ops.now }
 {
-    let len = program.len(t);
-    let tasks = program.tasks();
-    for p in 0..len {
-        if !lands(program.op(t, p), len, tasks) {
-            return Some(first + p);
-        }
-    }
-    None
+    let place = ops.iter().position(|op| !lands(*op, ops.len(), tasks))?;
+    Some(first + place)
 }
 
 // The line of the first operation of all that leads nowhere.
@@ -76,10 +65,11 @@ pub(super) fn stray_target(program: &Program, first: usize) -> Option<usize>
     let mut line = first;
     let tasks = program.tasks();
     for t in 0..tasks {
-        if let Some(at) = stray_op(program, t, line + 1) {
+        let ops = program.ops(t);
+        if let Some(at) = stray_op(ops, tasks, line + 1) {
             return Some(at);
         }
-        line = line + 1 + program.len(t);
+        line += 1 + ops.len();
     }
     None
 }

@@ -1,15 +1,16 @@
-ghost use Rattle.std.specs.Prelude.{◌≡◌, length};
+ghost use Rattle.std.specs.Prelude.{◌≡◌};
 ghost use Rattle.program.specs.Program.{code};
-ghost use Rattle.sheet.specs.Content.{Content};
 ghost use Rattle.sheet.specs.Sheets.{content, of_parts};
 
 use super::Sheet;
+use crate::filled::Filled;
 use crate::parts::Cell;
 use program::Program;
 use value::Kind;
 
 impl<K: Kind> Sheet<K> {
     // The sheet with the first of these cells and constants, and with what each task of the program is owed.
+    // kept: arrays with their counts, as the station has them: a sheet alone keeps them together.
     pub fn of(
         cells: [Cell<K>; 64],
         cell_count: usize,
@@ -20,13 +21,9 @@ impl<K: Kind> Sheet<K> {
     ) -> Sheet<K>
         ensures { content result ≡ of_parts cells cell_count consts const_count owed (code program) }
     {
-        let cell_count = if cell_count < 64 { cell_count } else { 64 };
-        let const_count = if const_count < 64 { const_count } else { 64 };
         Sheet {
-            cells,
-            cell_count,
-            consts,
-            const_count,
+            cells: Filled::of(cells, cell_count),
+            consts: Filled::of(consts, const_count),
             owed,
             program,
         }
@@ -36,15 +33,14 @@ impl<K: Kind> Sheet<K> {
     pub fn owed(&self) -> &[u8]
         ensures { result.now ≡ (content self.now).owed }
     {
-        let all = &self.owed[..];
-        &all[0..self.program.tasks()]
+        &self.owed[..self.program.tasks()]
     }
 
     // The operations of the tasks.
     pub fn program(&self) -> Program
         ensures { code result ≡ (content self.now).code }
     {
-        let program = self.program;
-        program
+        let Sheet { program, .. } = self;
+        *program
     }
 }

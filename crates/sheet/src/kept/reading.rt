@@ -6,9 +6,10 @@ ghost use Rattle.sheet.specs.Sheets.{Answers, content};
 
 use super::Sheet;
 use super::ends::{open_task, stray_target};
+use crate::filled::Filled;
 use crate::parts::{Cell, LineFault, Refusal};
 use program::{Mode, Program};
-use text::before;
+use text::split_once;
 use value::Kind;
 
 impl<K: Kind> Sheet<K> {
@@ -22,10 +23,8 @@ impl<K: Kind> Sheet<K> {
             value: zero,
         };
         Sheet {
-            cells: [cell; 64],
-            cell_count: 0,
-            consts: [zero; 64],
-            const_count: 0,
+            cells: Filled::of([cell; 64], 0),
+            consts: Filled::of([zero; 64], 0),
             owed: [0; 16],
             program: Program::new(),
         }
@@ -35,7 +34,7 @@ impl<K: Kind> Sheet<K> {
     fn settle(&self) -> Result<(), Refusal>
         ensures { Answers result (settled (content self.now)) (content self.now) }
     {
-        let first = self.cell_count + self.const_count + 1;
+        let first = self.cells.len() + self.consts.len() + 1;
         if let Some(line) = open_task(&self.program, first) {
             return Err(Refusal::OpenTask { line });
         }
@@ -55,19 +54,18 @@ impl<K: Kind> Sheet<K> {
         let mut sheet = Sheet::<K>::new();
         let mut rest = text;
         let mut line = 1;
-        while !rest.is_empty() {
-            let n = before(b'\n', rest);
-            if n == rest.len() {
-                return Err(Refusal::Line {
-                    fault: LineFault::BadForm,
-                    line,
-                });
-            }
-            if let Err(fault) = sheet.take_line(&rest[0..n]) {
+        while let Some((first, after)) = split_once(b'\n', rest) {
+            if let Err(fault) = sheet.take_line(first) {
                 return Err(Refusal::Line { fault, line });
             }
-            rest = &rest[n + 1..];
+            rest = after;
             line += 1;
+        }
+        if !rest.is_empty() {
+            return Err(Refusal::Line {
+                fault: LineFault::BadForm,
+                line,
+            });
         }
         sheet.settle()?;
         Ok(sheet)

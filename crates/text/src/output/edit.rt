@@ -2,6 +2,7 @@ ghost use Rattle.std.specs.Prelude.{◌≡◌, [], ◌∷◌, decimal};
 ghost use Rattle.text.specs.Line.{spelt, added};
 
 use super::Line;
+use itoa::Buffer;
 
 impl Line {
     pub fn new() -> Line
@@ -14,6 +15,7 @@ impl Line {
     }
 
     // One byte more, where there is room.
+    #[tactic(auto, using(crate::proofs::Lines::push_room, crate::proofs::Lines::push_full))]
     pub fn push(&mut self, b: u8)
         ensures { spelt self.new ≡ added (spelt self.old) (b ∷ []) }
     {
@@ -24,6 +26,7 @@ impl Line {
         }
     }
 
+    #[tactic(auto, using(crate::proofs::Lines::held, crate::proofs::Lines::extend_more))]
     pub fn extend(&mut self, more: &[u8])
         ensures { spelt self.new ≡ added (spelt self.old) more.now }
     {
@@ -36,10 +39,7 @@ impl Line {
     pub fn push_number(&mut self, n: u64)
         ensures { spelt self.new ≡ added (spelt self.old) (decimal n) }
     {
-        if n >= 10 {
-            self.push_number(n / 10);
-        }
-        self.push(b'0' + (n % 10) as u8);
+        self.extend(Buffer::new().format(n).as_bytes());
     }
 
     pub fn as_slice(&self) -> &[u8]

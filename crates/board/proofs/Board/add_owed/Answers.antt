@@ -10,10 +10,8 @@ loop-u-init c = simp delivered_none (search rules)
 
 pub overflow_add-self : goal.overflow_add-self
 overflow_add-self c =
-    let b = c.loop-u.self in
     let u = c.loop-u.u in
-    let same : row_at b u ≡ row_at c.args.self.now u =
-    ap (λ (x : Board). row_at x u) c.loop-u.invariant ∙ delivered_later _ _ u u (omega arith) in
+    let same : row_at c.loop-u.self u ≡ row_at c.args.self.now u = ap (λ (x : Board). row_at x u) c.loop-u.invariant ∙ delivered_later _ _ u u (omega arith) in
     let room = room_for c.args.counts.now c.args.self.now u c.requires c.loop-u-test.true in
     simp same (omega arith)
 

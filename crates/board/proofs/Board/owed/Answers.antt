@@ -1,19 +1,7 @@
-use Rattle.std.proofs.Common.{◌≡◌, ◌<◌, length, sym, refl, ap, ◌∙◌, arith, length-set}
-use Rattle.std.proofs.lemmas.List.{take_all}
+use Rattle.std.proofs.Common.{rules}
 use Rattle.board.specs.Boards.{row_at}
-use Rattle.board.specs.Laying.{tabulated}
-use Rattle.board.proofs.Layings.{tabulated_none, tabulated_more}
+use Rattle.board.proofs.Places.{made_tabulated}
 use Rattle.board.proofs.Board.owed.Goals as goal
 
-pub loop-t-init : goal.loop-t-init
-loop-t-init c = (sym (tabulated_none _), refl)
-
-pub loop-t-preserved : goal.loop-t-preserved
-loop-t-preserved c =
-    let room : c.loop-t.t < length c.loop-t.owed = omega (arith, c.loop-t.invariant.1) in
-    (tabulated_more (λ t. (row_at c.args.self.now t).owed) c.loop-t.owed c.loop-t.t room c.loop-t.invariant.0, simp length-set c.loop-t.invariant.1)
-
 pub returns : goal.returns
-returns c =
-    let end : c.loop-t.t ≡ 16 = omega arith in
-    sym (take_all c.loop-t.t c.loop-t.owed (omega (arith, c.loop-t.invariant.1))) ∙ (c.loop-t.invariant.0 ∙ ap (tabulated (λ t. (row_at c.args.self.now t).owed)) end)
+returns c = made_tabulated _ _ (λ t. (row_at c.args.self.now t).owed) 16 (λ i y q less k. search rules) c.from_fn.result 0 c.from_fn.ensures.items

@@ -1,7 +1,6 @@
 use Rattle.std.proofs.Common.{◌≡◌}
-use Rattle.board.specs.Boards.{with_owners}
 use Rattle.board.specs.Loops.{released}
 use Rattle.board.proofs.Board.release.Given as goal
 
-abbrev pub invariant-loop-c : goal.invariant-loop-c
-invariant-loop-c l = l.self ≡ with_owners l.initial.self (released l.t l.initial.self.owners l.c)
+abbrev pub invariant-loop-owner : goal.invariant-loop-owner
+invariant-loop-owner l = l.owner-items ≡ released l.t l.initial.owner-items l.owner-index

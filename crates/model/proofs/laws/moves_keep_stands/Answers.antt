@@ -1,5 +1,5 @@
-use Rattle.model.proofs.Kept.{kept-stands}
+use Rattle.model.proofs.Kept.{kept_stands}
 use Rattle.model.proofs.laws.moves_keep_stands.Goals as goal
 
 pub returns : goal.returns
-returns g c = kept-stands _
+returns g c = kept_stands _

@@ -6,9 +6,6 @@ use Rattle.sheet.specs.Writing.{spaced}
 use Rattle.sheet.proofs.LinesOut.{spaced_more, words_short}
 use Rattle.sheet.proofs.lines_out.words.Goals as goal
 
-pub loop-n-init : goal.loop-n-init
-loop-n-init c = c.push-2.ensures ∙ (ap (λ l. added l (c.args.letter ∷ [])) (c.push.ensures ∙ ap (λ l. added l (40 ∷ [])) c.new-line.ensures))
-
 pub loop-n-preserved : goal.loop-n-preserved
 loop-n-preserved c =
     spaced_more (40 ∷ c.args.letter ∷ []) (spelt c.loop-n.line) (spelt c.push-in-loop-n.new.self) (spelt c.push_number.new.self) c.args.numbers.now c.loop-n.n-index c.loop-n-test.true c.loop-n.invariant c.push-in-loop-n.ensures (c.push_number.ensures ∙ ap (λ m. added (spelt c.push-in-loop-n.new.self) (decimal m)) c.from.ensures)

@@ -1,8 +1,12 @@
-use Rattle.std.proofs.Common.{length, refl, ap}
+use Rattle.std.proofs.Common.{length, refl, ap, rules}
+use Rattle.board.specs.Laying.{itself}
+use Rattle.station.specs.Sheets.{cell_value}
 use Rattle.station.proofs.sheets.set_up.Goals as goal
 
 pub returns : goal.returns
 returns g c =
+    let cells = c.lay.ensures cell_value (λ x y r. search rules) in
+    let consts = c.lay-2.ensures itself (λ x y r. search rules) in
     record {
       answer = refl;
       board = cc;

@@ -1,13 +1,12 @@
-use Rattle.std.proofs.Common.{◌≡◌, ◌-◌, ◌≤◌, ◌++◌, map, length, take, drop}
+use Rattle.std.proofs.Common.{◌≡◌, ◌-◌, ◌≤◌, ◌++◌, map, length}
 use Rattle.text.specs.Tokens.{seen, lexed, trimmed, tokens}
 use Rattle.text.proofs.tokens.lex.Given as goal
 
-abbrev pub invariant-loop-rest : goal.invariant-loop-rest
-invariant-loop-rest l =
-    (l.n ≤ 23)
-    × (map seen (take l.n l.out) ++ trimmed (23 - l.n) (lexed l.rest) ≡ tokens l.bytes)
-    × (drop l.n l.out ≡ drop l.n l.initial.out)
-    × (length l.out ≡ 24)
+abbrev pub invariant-loop-token : goal.invariant-loop-token
+invariant-loop-token l = record {
+  within : length l.all.items ≤ 23;
+  so_far : map seen l.all.items ++ trimmed (23 - length l.all.items) (lexed l.rest) ≡ tokens l.bytes;
+}
 
-abbrev pub decreases-loop-rest : goal.decreases-loop-rest
-decreases-loop-rest l = length l.rest
+abbrev pub decreases-loop-token : goal.decreases-loop-token
+decreases-loop-token l = length l.rest

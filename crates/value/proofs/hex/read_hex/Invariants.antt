@@ -1,4 +1,4 @@
-use Rattle.value.specs.Hexes.{Sofar}
+use Rattle.value.proofs.HexReading.{Sofar}
 use Rattle.value.proofs.hex.read_hex.Given as goal
 
 abbrev pub invariant-loop-b : goal.invariant-loop-b

@@ -1,14 +1,15 @@
-use Rattle.std.proofs.Common.{sym, ◌∙◌}
-use Rattle.std.proofs.lemmas.Result.{err_from_is_err_and}
+use Rattle.std.proofs.Common.{sym, refl, ◌∙◌}
+use Rattle.std.proofs.lemmas.Bool.{and_parts}
+use Rattle.program.specs.Program.{code}
+use Rattle.sheet.specs.Lines.{op_line}
 use Rattle.sheet.specs.Sheets.{content}
-use Rattle.sheet.proofs.OpLines.{op_refused, op_accepted}
+use Rattle.sheet.proofs.Adding.{op_more}
+use Rattle.sheet.proofs.OpLines.{op_accepted}
 use Rattle.sheet.proofs.kept.Sheet.take_op.Goals as goal
-
-pub returns-in_err-op : goal.returns-in_err-op
-returns-in_err-op g c =
-    let p = err_from_is_err_and c.from_residual.result c.from_residual.ensures.1 in
-    rw (p.1, p.2) (op_refused (content c.args.self.now) c.args.line.now (λ z. c.if-tasks-eq0.false (c.tasks.ensures.value ∙ z)) _ (sym c.in_err-op.ensures))
 
 pub returns : goal.returns
 returns g c =
-    rw (op_accepted (content c.args.self.now) c.args.line.now (λ z. c.if-tasks-eq0.false (c.tasks.ensures.value ∙ z)) c.in_ok-op.op (sym c.in_ok-op.ensures)) c.add_op.ensures
+    let s = content c.args.self.now in
+    let read = (λ i. op_line (sym c.len.ensures.value i) (sym c.len-2.ensures.value i) c.args.line.now) ∙ sym c.in_ok-op.ensures in
+    op_accepted s c.args.line.now (λ z. c.if-tasks-eq0.false (c.tasks.ensures.value ∙ z)) c.in_ok-op.op read
+    ∙ op_more s c.args.self.now.owed (code c.add_op.new.self) c.in_ok-op.op refl (and_parts _ _ (sym c.in_ok-add_op.ensures.value)).1 c.in_ok-add_op.ensures.after

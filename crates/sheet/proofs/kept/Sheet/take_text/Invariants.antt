@@ -5,10 +5,10 @@ use Rattle.sheet.specs.Reading.{read_lines}
 use Rattle.sheet.specs.Sheets.{content}
 use Rattle.sheet.proofs.kept.Sheet.take_text.Given as goal
 
-abbrev pub invariant-loop-rest : goal.invariant-loop-rest
-invariant-loop-rest g l =
+abbrev pub invariant-loop-first : goal.invariant-loop-first
+invariant-loop-first g l =
     (read_lines g.K.Kind.reads l.line (content l.sheet) (cut 10 l.rest) ≡ read_lines g.K.Kind.reads 1 nothing (cut 10 l.text))
     × (l.line + length l.rest ≤ 65537)
 
-abbrev pub decreases-loop-rest : goal.decreases-loop-rest
-decreases-loop-rest g l = length l.rest
+abbrev pub decreases-loop-first : goal.decreases-loop-first
+decreases-loop-first g l = length l.rest

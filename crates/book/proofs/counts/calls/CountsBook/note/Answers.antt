@@ -1,20 +1,12 @@
-use Rattle.std.proofs.Common.{refl, arith}
+use Rattle.std.proofs.Common.{arith}
 use Rattle.book.specs.Counted.{counted}
 use Rattle.book.proofs.Changes.{is_noting}
-use Rattle.book.proofs.Counting.{noting-noted, noting-stale, noting_first}
+use Rattle.book.proofs.Counting.{noting-noted, noting-stale}
 use Rattle.book.proofs.counts.calls.CountsBook.note.Goals as goal
 
-pub invariant_of-self : goal.invariant_of-self
-invariant_of-self c =
+pub returns-then-c-lt64-clause-notes : goal.returns-then-c-lt64-clause-notes
+returns-then-c-lt64-clause-notes c =
     let old = c.args.self.now in
-    record { ok = noting_first old.first old.commits c.note_first.new.firsts c.args.t c.args.c (omega arith) c.note_first.ensures old.ok }
-
-pub returns-then-c-lt64 : goal.returns-then-c-lt64
-returns-then-c-lt64 c =
-    let old = c.args.self.now in
-    record {
-      notes = is_noting c.args.t c.args.c c.args.held (counted old) _ (omega arith) (omega arith)
-          (noting-noted old.first old.commits c.note_first.new.firsts c.args.t c.args.c (omega arith) c.note_first.ensures)
-          (λ u. noting-stale old.first old.commits c.note_first.new.firsts c.args.t c.args.c (omega arith) c.note_first.ensures old.flag c.args.held u (omega arith));
-      spare = refl;
-    }
+    is_noting c.args.t c.args.c c.args.held (counted old) _ (omega arith) (omega arith)
+    (noting-noted old.tasks old.commits c.note.new.self c.args.t c.args.c c.args.held (omega arith) c.note.ensures.flag c.note.ensures.first)
+    (noting-stale old.tasks old.commits c.note.new.self c.args.t c.args.c c.args.held (omega arith) c.note.ensures.flag c.note.ensures.first)

@@ -1,6 +1,0 @@
-use Rattle.std.proofs.Common.{◌≡◌}
-use Rattle.board.specs.Loops.{owned}
-use Rattle.board.proofs.Board.owned_by.Given as goal
-
-abbrev pub invariant-loop-c : goal.invariant-loop-c
-invariant-loop-c l = l.cells ≡ owned l.t l.self.owners l.c

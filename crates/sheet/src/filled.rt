@@ -1,0 +1,12 @@
+ghost use Rattle.std.specs.Prelude.{◌≡◌, ◌≤◌, length};
+
+mod edit;
+
+// The first places of N, as many as are filled.
+// kept: no `ArrayVec`: it would ask a `Default` of its items, and so of every kind.
+#[derive(Drop)]
+pub(crate) struct Filled<T, const N: usize> {
+    items: [T; N],
+    len: usize,
+    ghost sizes: { (length items ≡ N) × (len ≤ N) },
+}

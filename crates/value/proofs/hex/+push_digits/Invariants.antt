@@ -1,0 +1,4 @@
+use Rattle.value.proofs.hex.+push_digits.Given as goal
+
+abbrev pub decreases-push_digits : goal.decreases-push_digits
+decreases-push_digits l = l.k
