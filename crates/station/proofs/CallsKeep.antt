@@ -1,6 +1,7 @@
 -- Every call keeps what a station keeps.
 use Rattle.std.proofs.Common.{◌≡◌, ℕ, ◌+◌, ◌<◌, true, false, cond, ltb, List, length, Some, None, Option, refl, subst, sym, arith}
 use Rattle.std.proofs.lemmas.List.{length-replicate}
+use Rattle.std.proofs.lemmas.Bool.{lt-ltb}
 use Rattle.std.proofs.lemmas.Bool.Decides.{nat_tests}
 use Rattle.program.specs.declared.Mode.{Mode}
 use Rattle.program.specs.declared.Op.{Op}
@@ -77,20 +78,21 @@ module _ {V : Type 0} (k : Meaning V) (w : World V) (kept : Kept w) (t : ℕ) (i
 
   -- the operation that is looked up lands, and another comes after it if it does not close the task
   on_from : (p : ℕ) → p < ops_count w t → closes (op_at w.code t p) ≡ false → ltb (p + 1) (ops_count w t) ≡ true
-  on_from p here more = let same = looks_up w.code w.cells w.consts kept.table t p in let next = goes_on w.code w.cells w.consts kept.table t p here in grind (arith, nat_tests)
+  on_from p here = rw (looks_up w.code w.cells w.consts kept.table t p) (λ more. lt-ltb (p + 1) _ (goes_on w.code w.cells w.consts kept.table t p here more))
 
   lands_at : (p : ℕ) → lands (ops_count w t) (length w.code) (op_at w.code t p) ≡ true
   lands_at p = let same = looks_up w.code w.cells w.consts kept.table t p in let b = kept.table.in_bounds t p in grind (arith, nat_tests)
 
-  place : (p : ℕ) (q : TaskState) → state_at w.board t ≡ q → stands (ops_count w t) q ≡ true
-  place p q now = let here = kept.board.stands_well t in cc
+  -- a task stands at a place of its own
+  inside_at : (p o : ℕ) → state_at w.board t ≡ Inside p o → p < ops_count w t
+  inside_at p o now = let here = kept.board.stands_well t in grind (arith, nat_tests)
 
   meet_keeps : (left : ℕ → ℕ) (q : TaskState) (e : Event) → state_at w.board t ≡ q → Kept (meets k w t left q e).world
   meet_keeps left Idle Admit now = admit_keeps now
   meet_keeps left (Ready p) Open now = open_keeps p now
   meet_keeps left (Inside p o) Step now =
-      inside_keeps w kept k t p is left o now (op_at w.code t p) (let here = kept.board.stands_well t in on_from p (grind (arith, nat_tests))) (lands_at p)
-  meet_keeps left (Inside p o) Commit now = let here = kept.board.stands_well t in commit_keeps p (op_at w.code t p) (on_from p (grind (arith, nat_tests)))
+      inside_keeps w kept k t p is left o now (op_at w.code t p) (on_from p (inside_at p o now)) (lands_at p)
+  meet_keeps left (Inside p o) Commit now = commit_keeps p (op_at w.code t p) (on_from p (inside_at p o now))
   meet_keeps left (Inside p o) Undo now = undo_keeps p o now
   meet_keeps left (Outside p) Step now =
       outside_keeps w kept k t p is now (op_at w.code t p) (let here = kept.board.stands_well t in on_from p (grind (arith, nat_tests))) (lands_at p)
