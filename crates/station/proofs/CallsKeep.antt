@@ -1,60 +1,53 @@
 -- Every call keeps what a station keeps.
-use Rattle.std.proofs.Common.{◌≡◌, ℕ, ◌+◌, ◌<◌, true, false, cond, ltb, List, length, Some, None, Option, refl, subst, sym, arith}
+use Rattle.std.proofs.Common.{◌≡◌, ℕ, ◌+◌, ◌<◌, true, false, ltb, List, length, refl, arith}
 use Rattle.std.proofs.lemmas.List.{length-replicate}
-use Rattle.std.proofs.lemmas.Bool.{lt-ltb}
 use Rattle.std.proofs.lemmas.Bool.Decides.{nat_tests}
-use Rattle.program.specs.declared.Mode.{Mode}
 use Rattle.program.specs.declared.Op.{Op}
 use Rattle.program.specs.declared.Op.TheVariants.{Finish, Leave}
-use Rattle.sheet.specs.Ends.{closes, lands}
+use Rattle.sheet.specs.Ends.{closes}
 use Rattle.machine.specs.Effect.{Meaning}
 use Rattle.board.specs.declared.Row.{Row}
 use Rattle.board.specs.declared.Board.{Board}
 use Rattle.board.specs.declared.TaskState.{TaskState}
 use Rattle.board.specs.declared.TaskState.TheVariants.{Idle, Ready, Inside, Outside}
-use Rattle.board.specs.Boards.{row, row_at, state_at, mine, mode_of, with_row, with_rows}
+use Rattle.board.specs.Boards.{row_at, state_at, with_row, with_rows}
 use Rattle.board.specs.Loops.{delivered}
 use Rattle.engine.specs.declared.Event.{Event}
 use Rattle.engine.specs.declared.Event.TheVariants.{Admit, Open, Step, Commit, Undo}
 use Rattle.engine.specs.Calls.{admits, opens, ends, commits, undoes, meets, let_go}
 use Rattle.engine.specs.Lookup.{op_at}
 use Rattle.engine.specs.World.{World}
-use Rattle.station.specs.Rules.{ops_of, well_owned, stands}
+use Rattle.station.specs.Rules.{ops_of, stands}
 use Rattle.station.specs.Kept.{KeptBoard, Kept, CallsKeep}
-use Rattle.station.proofs.Lookups.{looks_up, goes_on, not_empty}
+use Rattle.station.proofs.Lookups.{lands_at, goes_on, not_empty}
 use Rattle.station.proofs.Loops.{length-delivered, delivered_at, length-released, released_at}
 use Rattle.station.proofs.Steps.{written, ops_count, board_keeps, inside_keeps, outside_keeps}
 
--- a cell that task t may have owned is well owned once t has let it go
-still_well : (code : List (List Op)) (b : Board) (t : ℕ) (r : Row) (m : Mode) (o : Option ℕ) → well_owned code b m o ≡ true
-    → well_owned code (with_row b t r) m (cond (mine t o) None o) ≡ true
-still_well code b t r m None h = refl
-still_well code b t r m (Some u) h = grind (arith, written)
+module _ (code : List (List Op)) (b : Board) (t : ℕ) where
+  -- a row that stands well where it is written
+  stands_on : (u : ℕ) (r : Row) → stands (length (ops_of code t)) r.state ≡ true → stands (length (ops_of code u)) (state_at b u) ≡ true
+      → stands (length (ops_of code u)) (state_at (with_row b t r) u) ≡ true
+  stands_on u r new old = grind (arith, written)
 
--- a row that stands well where it is written
-stands_on : (code : List (List Op)) (b : Board) (t u : ℕ) (r : Row) → stands (length (ops_of code t)) r.state ≡ true → stands (length (ops_of code u)) (state_at b u) ≡ true
-    → stands (length (ops_of code u)) (state_at (with_row b t r) u) ≡ true
-stands_on code b t u r new old = grind (arith, written)
-
-module _ {V : Type 0} (k : Meaning V) (w : World V) (kept : Kept w) (t : ℕ) (is : t < length w.code) where
   -- A task that releases its cells may go anywhere.
-  release_keeps : (b : Board) (q : TaskState) → KeptBoard w.code b → stands (ops_count w t) q ≡ true → KeptBoard w.code (let_go b t q)
-  release_keeps b q kb stand =
+  release_keeps : (q : TaskState) → KeptBoard code b → stands (length (ops_of code t)) q ≡ true → KeptBoard code (let_go b t q)
+  release_keeps q kb stand =
       let long = length-released t b.owners 64 in
       record {
         sizes = grind (arith, written);
-        row_sizes = λ u h. let old = kb.row_sizes u h in grind (arith, written);
-        owned_well = λ c. subst (λ o. well_owned w.code (with_row b t (row (row_at b t).owed q (row_at b t).own)) (mode_of b c) o ≡ true) (sym (released_at t b.owners 64 c kb.sizes.1)) (still_well w.code b t (row (row_at b t).owed q (row_at b t).own) (mode_of b c) _ (kb.owned_well c));
-        stands_well = λ u. stands_on w.code b t u (row (row_at b t).owed q (row_at b t).own) stand (kb.stands_well u);
+        row_sizes = grind (arith, written);
+        owned_well = λ c. let at = released_at t b.owners 64 c kb.sizes.1 in let old = kb.owned_well c in grind (arith, written);
+        stands_well = λ u. stands_on u _ stand (kb.stands_well u);
       }
 
+module _ {V : Type 0} (k : Meaning V) (w : World V) (kept : Kept w) (t : ℕ) (is : t < length w.code) where
   -- Owed calls that are delivered change nothing that is kept.
   delivery_keeps : (counts : List ℕ) → KeptBoard w.code (with_rows w.board (delivered counts w.board.rows 16))
   delivery_keeps counts = grind (arith, nat_tests, length-delivered counts w.board.rows 16, delivered_at counts w.board.rows 16)
 
   admit_keeps : state_at w.board t ≡ Idle → Kept (admits k w t).world
   admit_keeps now =
-      let one = not_empty w.code w.cells w.consts kept.table t is in
+      let one = not_empty kept.table t is in
       grind (arith, written)
 
   open_keeps : (p : ℕ) → state_at w.board t ≡ Ready p → Kept (opens k w t p).world
@@ -63,7 +56,7 @@ module _ {V : Type 0} (k : Meaning V) (w : World V) (kept : Kept w) (t : ℕ) (i
   -- Where a transaction ends its task goes on at a place of its own.
   end_keeps : (q : TaskState) → stands (ops_count w t) q ≡ true → Kept (ends k w t q).world
   end_keeps q stand =
-      let go = release_keeps (with_rows w.board (delivered (row_at w.board t).own w.board.rows 16)) q (delivery_keeps (row_at w.board t).own) stand in
+      let go = release_keeps w.code (with_rows w.board (delivered (row_at w.board t).own w.board.rows 16)) t q (delivery_keeps (row_at w.board t).own) stand in
       grind arith
 
   -- At a finish the task is idle, and at a leave it goes on outside, at the next place.
@@ -74,28 +67,24 @@ module _ {V : Type 0} (k : Meaning V) (w : World V) (kept : Kept w) (t : ℕ) (i
 
   -- An undone task is ready where it opened.
   undo_keeps : (p o : ℕ) → state_at w.board t ≡ Inside p o → Kept (undoes k w t o).world
-  undo_keeps p o now = let here = kept.board.stands_well t in board_keeps w kept _ _ _ (release_keeps w.board (Ready o) kept.board (grind (arith, nat_tests)))
-
-  -- the operation that is looked up lands, and another comes after it if it does not close the task
-  on_from : (p : ℕ) → p < ops_count w t → closes (op_at w.code t p) ≡ false → ltb (p + 1) (ops_count w t) ≡ true
-  on_from p here = rw (looks_up w.code w.cells w.consts kept.table t p) (λ more. lt-ltb (p + 1) _ (goes_on w.code w.cells w.consts kept.table t p here more))
-
-  lands_at : (p : ℕ) → lands (ops_count w t) (length w.code) (op_at w.code t p) ≡ true
-  lands_at p = let same = looks_up w.code w.cells w.consts kept.table t p in let b = kept.table.in_bounds t p in grind (arith, nat_tests)
+  undo_keeps p o now = let here = kept.board.stands_well t in board_keeps w kept _ _ _ (release_keeps w.code w.board t (Ready o) kept.board (grind (arith, nat_tests)))
 
   -- a task stands at a place of its own
   inside_at : (p o : ℕ) → state_at w.board t ≡ Inside p o → p < ops_count w t
   inside_at p o now = let here = kept.board.stands_well t in grind (arith, nat_tests)
 
+  outside_at : (p : ℕ) → state_at w.board t ≡ Outside p → p < ops_count w t
+  outside_at p now = let here = kept.board.stands_well t in grind (arith, nat_tests)
+
   meet_keeps : (left : ℕ → ℕ) (q : TaskState) (e : Event) → state_at w.board t ≡ q → Kept (meets k w t left q e).world
   meet_keeps left Idle Admit now = admit_keeps now
   meet_keeps left (Ready p) Open now = open_keeps p now
   meet_keeps left (Inside p o) Step now =
-      inside_keeps w kept k t p is left o now (op_at w.code t p) (on_from p (inside_at p o now)) (lands_at p)
-  meet_keeps left (Inside p o) Commit now = commit_keeps p (op_at w.code t p) (on_from p (inside_at p o now))
+      inside_keeps w kept k t p is left o now (op_at w.code t p) (goes_on kept.table t p (inside_at p o now)) (lands_at kept.table t p)
+  meet_keeps left (Inside p o) Commit now = commit_keeps p (op_at w.code t p) (goes_on kept.table t p (inside_at p o now))
   meet_keeps left (Inside p o) Undo now = undo_keeps p o now
   meet_keeps left (Outside p) Step now =
-      outside_keeps w kept k t p is now (op_at w.code t p) (let here = kept.board.stands_well t in on_from p (grind (arith, nat_tests))) (lands_at p)
+      outside_keeps w kept k t p is now (op_at w.code t p) (goes_on kept.table t p (outside_at p now)) (lands_at kept.table t p)
   meet_keeps left _ _ now = kept
 
 -- Every call keeps it, whether it is accepted or refused.

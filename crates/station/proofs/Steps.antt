@@ -7,7 +7,7 @@ use Rattle.value.specs.declared.codes.Cause.{Cause}
 use Rattle.program.specs.declared.Mode.{Mode}
 use Rattle.program.specs.declared.Mode.TheVariants.{Unprotected}
 use Rattle.program.specs.declared.Op.{Op}
-use Rattle.program.specs.declared.Op.TheVariants.{Finish, Read, Write, Constant, Apply, Jump, JumpIfFalse, Await, Start, Leave, Enter, Protect, Unprotect}
+use Rattle.program.specs.declared.Op.TheVariants.{Read, Write, Constant, Apply, Jump, JumpIfFalse, Await, Start, Leave, Unprotect}
 use Rattle.sheet.specs.Ends.{closes, lands}
 use Rattle.machine.specs.Effect.{Meaning}
 use Rattle.book.specs.Seen.{Seen}
@@ -36,22 +36,17 @@ either_keeps false a b f g = g
 module _ (code : List (List Op)) (b : Board) (kb : KeptBoard code b) (t p : ℕ) where
   owns : (c o n : ℕ) → state_at b t ≡ Inside p o → t < length code → ltb n (length (ops_of code t)) ≡ true → is_protected (mode_of b c) ≡ true
       → KeptBoard code (with_state (with_owner b c t) t (Inside n o))
-  owns c o n now is on guard = grind (arith, nat_tests, common_steps, set_past)
+  owns c o n now is on guard = grind (arith, common_steps)
 
   counts : (u o : ℕ) → state_at b t ≡ Inside p o → t < length code → ltb (p + 1) (length (ops_of code t)) ≡ true → KeptBoard code (counted b t u (Inside (p + 1) o))
-  counts u o now is on = grind (arith, nat_tests, common_steps, set_past)
+  counts u o now is on = grind (arith, common_steps)
 
   -- what a task is owed says nothing of where it stands
   owned_still : (u n : ℕ) (m : Mode) (o : Option ℕ) → well_owned code b m o ≡ true → well_owned code (with_owed b u n) m o ≡ true
   owned_still u n m o h = grind (arith, written)
 
   owes : (u n : ℕ) → KeptBoard code (with_owed b u n)
-  owes u n = record {
-    sizes = grind (arith, written);
-    row_sizes = λ v h. let old = kb.row_sizes v h in grind (arith, written);
-    owned_well = λ c. owned_still u n (mode_of b c) (owner b c) (kb.owned_well c);
-    stands_well = λ v. let old = kb.stands_well v in grind (arith, written);
-  }
+  owes u n = grind (arith, written, owned_still u n)
 
   still_out : (u n : ℕ) → state_at b t ≡ Outside p → state_at (with_owed b u n) t ≡ Outside p
   still_out u n now = grind (arith, written)
@@ -60,7 +55,7 @@ module _ (code : List (List Op)) (b : Board) (kb : KeptBoard code b) (t p : ℕ)
   goes_on_out n now on = grind (arith, written)
 
   frees : (c n : ℕ) → state_at b t ≡ Outside p → owner b c ≡ None → ltb n (length (ops_of code t)) ≡ true → KeptBoard code (with_state (with_mode b c Unprotected) t (Outside n))
-  frees c n now free on = grind (arith, nat_tests, common_steps, set_past)
+  frees c n now free on = grind (arith, common_steps)
 
 module _ {V : Type 0} (w : World V) (kept : Kept w) where
   -- nothing else of the world is kept
@@ -111,10 +106,4 @@ module _ {V : Type 0} (w : World V) (kept : Kept w) where
         (board_keeps _ _ _ (goes_on_out w.code (with_owed b u n) (owes w.code b kept.board t p u n) t p (p + 1) (still_out w.code b kept.board t p u n now) (on refl)))
     outside_keeps now Leave on land = kept
     outside_keeps now (Unprotect cell) on land = unprotect_keeps cell now (on refl) (owner w.board cell) refl
-    outside_keeps now Finish on land = board_keeps _ _ _ (grind (arith, written))
-    outside_keeps now (Read to cell) on land = board_keeps _ _ _ (grind (arith, written))
-    outside_keeps now (Write cell from) on land = board_keeps _ _ _ (grind (arith, written))
-    outside_keeps now (Constant to n) on land = board_keeps _ _ _ (grind (arith, written))
-    outside_keeps now (Jump target) on land = board_keeps _ _ _ (grind (arith, written))
-    outside_keeps now Enter on land = board_keeps _ _ _ (grind (arith, written))
-    outside_keeps now (Protect cell) on land = board_keeps _ _ _ (grind (arith, written))
+    outside_keeps now _ on land = board_keeps _ _ _ (grind (arith, written))
