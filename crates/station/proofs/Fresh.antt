@@ -1,8 +1,7 @@
 -- A station that a sheet has set up, and one that has read nothing, have what every station keeps.
-use Rattle.std.proofs.Common.{◌≡◌, ℕ, zero, suc, ltb, List, [], ◌∷◌, length, get_or, replicate, None, Ok, Err, Option, Result, refl, ◌∙◌, arith}
+use Rattle.std.proofs.Common.{◌≡◌, ℕ, ltb, List, [], ◌∷◌, length, get_or, replicate, None, Ok, Err, Option, Result, refl, ◌∙◌, arith}
 use Rattle.std.proofs.lemmas.List.{length-replicate}
 use Rattle.std.proofs.lemmas.Grind.{common_steps}
-use Rattle.std.proofs.lemmas.Bool.{cond_both}
 use Rattle.text.specs.Tokens.{Tok}
 use Rattle.value.specs.declared.codes.Fault.{Fault}
 use Rattle.program.specs.declared.Mode.TheVariants.{Protected}
@@ -16,9 +15,9 @@ use Rattle.board.specs.Boards.{no_row, idle_row}
 use Rattle.board.specs.Laying.{laid}
 use Rattle.board.proofs.Places.{length-laid, get_or-laid}
 use Rattle.station.specs.Sheets.{cell_mode, fresh_board, sets_up, sets_up_if}
-use Rattle.faults.specs.declared.Refusal.{Refusal}
-use Rattle.engine.specs.World.{World, After}
+use Rattle.engine.specs.World.{World}
 use Rattle.station.specs.Kept.{KeptBoard, Kept, NewKeeps, ReadingsKeep}
+use Rattle.station.proofs.Steps.{either_keeps}
 use Rattle.station.proofs.Tables.{sound_table}
 
 modes_long : {V : Type 0} (cells : List (Cell V)) → length (laid cell_mode 0 cells (replicate 64 Protected)) ≡ 64
@@ -26,9 +25,7 @@ modes_long [] = length-replicate 64 Protected
 modes_long (c ∷ cells) = length-laid cell_mode c Protected 0 (c ∷ cells) (replicate 64 Protected) ∙ length-replicate 64 Protected
 
 unowned : (n c : ℕ) → get_or {A = Option ℕ} (replicate n None) c None ≡ None
-unowned zero c = refl
-unowned (suc n) zero = refl
-unowned (suc n) (suc c) = unowned n c
+unowned n c = grind (arith, common_steps)
 
 -- Nobody owns a cell, and every task is idle.
 fresh_keeps : {V : Type 0} (code : List (List Op)) (cells : List (Cell V)) (owed : List ℕ) → KeptBoard code (fresh_board cells owed)
@@ -54,7 +51,7 @@ module _ {V : Type 0} (nought : V) (form : V → Option (List ℕ)) (reads : Lis
   -- Every reading, accepted or refused: what is read is sound.
   pub readings_keep : ReadingsKeep nought reads
   readings_keep bs w kept =
-      cond_both {A = After (Result ℕ Refusal) V} (ltb (length w.slice) 320) _ _ (λ r. Kept r.world) (λ _. kept) (λ _. set_up_if_keeps bs w kept (read_text reads bs) refl)
+      either_keeps (ltb (length w.slice) 320) _ _ kept (set_up_if_keeps bs w kept (read_text reads bs) refl)
 
 -- A station that has read nothing.
 pub new_keeps : {V : Type 0} → NewKeeps V
