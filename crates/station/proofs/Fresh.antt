@@ -24,7 +24,7 @@ modes_long : {V : Type 0} (cells : List (Cell V)) → length (laid cell_mode 0 c
 modes_long [] = length-replicate 64 Protected
 modes_long (c ∷ cells) = length-laid cell_mode c Protected 0 (c ∷ cells) (replicate 64 Protected) ∙ length-replicate 64 Protected
 
-unowned : (n c : ℕ) → get_or {A = Option ℕ} (replicate n None) c None ≡ None
+pub unowned : (n c : ℕ) → get_or {A = Option ℕ} (replicate n None) c None ≡ None
 unowned n c = grind (arith, common_steps)
 
 -- Nobody owns a cell, and every task is idle.
