@@ -20,10 +20,12 @@ use Rattle.station.specs.Kept.{KeptBoard, Kept, NewKeeps, ReadingsKeep}
 use Rattle.station.proofs.Steps.{either_keeps}
 use Rattle.station.proofs.Tables.{sound_table}
 
+-- however many cells are laid, 64 modes stand
 modes_long : {V : Type 0} (cells : List (Cell V)) → length (laid cell_mode 0 cells (replicate 64 Protected)) ≡ 64
 modes_long [] = length-replicate 64 Protected
 modes_long (c ∷ cells) = length-laid cell_mode c Protected 0 (c ∷ cells) (replicate 64 Protected) ∙ length-replicate 64 Protected
 
+-- nobody owns a cell, past the last one too
 pub unowned : (n c : ℕ) → get_or {A = Option ℕ} (replicate n None) c None ≡ None
 unowned n c = grind (arith, common_steps)
 

@@ -34,6 +34,7 @@ either_keeps false a b f g = g
 
 -- The writes that a step makes beside its task's own state.
 module _ (code : List (List Op)) (b : Board) (kb : KeptBoard code b) (t p : ℕ) where
+  -- a protected cell is owned by a task that is inside
   owns : (c o n : ℕ) → state_at b t ≡ Inside p o → t < length code → ltb n (length (ops_of code t)) ≡ true → is_protected (mode_of b c) ≡ true
       → KeptBoard code (with_state (with_owner b c t) t (Inside n o))
   owns c o n now is on guard = grind (arith, common_steps)
@@ -48,6 +49,7 @@ module _ (code : List (List Op)) (b : Board) (kb : KeptBoard code b) (t p : ℕ)
   owes : (u n : ℕ) → KeptBoard code (with_owed b u n)
   owes u n = grind (arith, written, owned_still u n)
 
+  -- nor does it move another task
   still_out : (u n : ℕ) → state_at b t ≡ Outside p → state_at (with_owed b u n) t ≡ Outside p
   still_out u n now = grind (arith, written)
 
