@@ -57,10 +57,9 @@ impl Run {
 
     // One answer a line; the first has the number `first` in the whole input. A last line without a line feed is no call.
     fn answer_all(&mut self, calls: &[u8], first: usize) -> io::Result<()> {
-        let mut number = first;
-        for line in calls.split_inclusive(|b| *b == b'\n') {
-            self.answer(line.strip_suffix(b"\n").unwrap_or(b""), number)?;
-            number = number.saturating_add(1);
+        for (i, line) in calls.split_inclusive(|b| *b == b'\n').enumerate() {
+            let text = line.strip_suffix(b"\n").unwrap_or(b"");
+            self.answer(text, first.saturating_add(i))?;
         }
         Ok(())
     }

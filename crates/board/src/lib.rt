@@ -27,7 +27,8 @@ pub struct Row {
 }
 
 // The sides of the cells, the tasks whose transactions own them, and the tasks.
-// kept: modes and owners are two arrays: a sheet gives all modes, and a commit or an undo goes over all owners, each without the other.
+// kept: modes and owners are two arrays: a sheet gives all modes, and a commit or an undo goes over all owners; only a write
+// looks at both of one cell.
 #[derive(Clone, Copy)]
 pub struct Board {
     pub modes: [Mode; 64],
@@ -79,7 +80,7 @@ impl Board {
         requires { overfull counts.now self.old ≡ false }
         ensures { self.new ≡ with_rows self.old (delivered counts.now self.old.rows 16) }
     {
-        // kept: the rows by index: no clause says what a zip of `iter_mut` leaves.
+        // kept: the rows by index: no clause says what a zip of `iter_mut` leaves, and an array made anew would copy all rows.
         for (u, &count) in counts.iter().enumerate() {
             self.rows[u].owed += count;
         }

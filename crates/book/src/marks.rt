@@ -92,8 +92,7 @@ impl Book for Marks {
     }
 
     fn rest(&mut self) {
-        self.readers = [[false; 16]; 64];
-        self.stale = [false; 16];
+        *self = Marks::new();
     }
 
     fn is_stale(&self, t: usize) -> bool {

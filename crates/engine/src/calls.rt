@@ -19,10 +19,10 @@ impl<B: Book, K: Kind> Turn<'_, '_, B, K> {
         ensures { Acts B.Book K.Kind self.old self.new result admits }
     {
         let row = &mut self.engine.board.rows[self.t];
-        if row.owed == 0 {
-            return Err(Refusal::NoneOwed { task: self.t });
-        }
-        row.owed -= 1;
+        row.owed = row
+            .owed
+            .checked_sub(1)
+            .ok_or(Refusal::NoneOwed { task: self.t })?;
         row.state = TaskState::Ready { place: 0 };
         self.clear_registers();
         Ok(())

@@ -5,7 +5,7 @@ ghost use Rattle.engine.specs.World.{SameTable, settles};
 ghost use Rattle.board.specs.Loops.{busy};
 ghost use Rattle.engine.specs.Lookup.{op_at};
 ghost use Rattle.engine.specs.Restoring.{restored};
-ghost use Rattle.engine.specs.Turns.{Acts};
+ghost use Rattle.engine.specs.Turns.{Acts, Lays};
 ghost use Rattle.engine.specs.Calls.{own_cells, let_go, ends, commits, undoes};
 
 use crate::Engine;
@@ -16,18 +16,6 @@ use board::TaskState;
 use book::Book;
 use faults::{Refusal, StepFault};
 use value::Kind;
-
-// The cells that t owns take their saved values.
-fn restore<K: Kind>(owners: &[Option<u8>; 64], slice: &mut [K], t: usize)
-    requires { 128 ≤ length slice.old }
-    ensures { slice.new ≡ restored t K.ZERO owners.now slice.old 64 }
-{
-    for (c, owner) in owners.iter().enumerate() {
-        if owner.is_some_and(|u| u as usize == t) {
-            copy(slice, SAVED + c, c);
-        }
-    }
-}
 
 impl<B: Book> Engine<B> {
     // When the last transaction has ended, the book rests.
@@ -82,11 +70,24 @@ impl<B: Book, K: Kind> Turn<'_, '_, B, K> {
         }
     }
 
+    // The cells that the task owns take their saved values.
+    fn restore(&mut self)
+        ensures { Lays self.old self.new (restored self.old.t K.ZERO self.old.engine.now.board.owners self.old.slice.now 64) }
+    {
+        let (board, t) = (&self.engine.board, self.t);
+        let slice = &mut *self.slice;
+        for (c, owner) in board.owners.iter().enumerate() {
+            if owner.is_some_and(|u| u as usize == t) {
+                copy(slice, SAVED + c, c);
+            }
+        }
+    }
+
     // Owned cells and registers come back, and the task is ready where its transaction opened.
     pub(crate) fn undo_to(&mut self, opening: u16) -> Result<(), Refusal>
         ensures { Acts B.Book K.Kind self.old self.new result (λ k w t. undoes k w t opening) }
     {
-        restore(&self.engine.board.owners, self.slice, self.t);
+        self.restore();
         self.engine.board.release(self.t);
         self.take_registers_back();
         self.engine.board.rows[self.t].state = TaskState::Ready { place: opening };

@@ -53,10 +53,7 @@ impl<B: Book, K: Kind> Turn<'_, '_, B, K> {
     {
         let row = &mut self.engine.board.rows[self.t];
         let u = task.index;
-        if row.own[u] == 255 {
-            return Err(StepFault::TooManyOwed);
-        }
-        row.own[u] += 1;
+        row.own[u] = row.own[u].checked_add(1).ok_or(StepFault::TooManyOwed)?;
         row.state = next;
         Ok(())
     }

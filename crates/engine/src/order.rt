@@ -1,5 +1,6 @@
 // Orders: operations whose arguments are known to be in bounds, so that no function has to ask it of them.
 // kept: a type beside `Op`, which is what a sheet writes, public and with arguments of any size.
+// kept: Options and no TryFrom: nothing is told of why an argument is refused.
 ghost use Rattle.std.specs.Prelude.{◌≡◌, ◌<◌, ◌≤◌, MatchOption};
 
 use program::Op;

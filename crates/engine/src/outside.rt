@@ -18,10 +18,7 @@ impl<B: Book, K: Kind> Turn<'_, '_, B, K> {
         ensures { Acts B.Book K.Kind self.old self.new result (λ k w t. starts_outside k w t task.index next) }
     {
         let row = &mut self.engine.board.rows[task.index];
-        if row.owed == 255 {
-            return Err(StepFault::TooManyOwed);
-        }
-        row.owed += 1;
+        row.owed = row.owed.checked_add(1).ok_or(StepFault::TooManyOwed)?;
         self.go(next)
     }
 

@@ -18,7 +18,7 @@ struct Span {
 pub struct Full;
 
 // The operations of at most 16 tasks, 1,024 in all, task after task.
-// kept: `ops` with `used`, and `spans` with `count`: a plain inner table is fixed memory, and the program is `Copy`.
+// kept: `ops` with `used`, and `spans` with `count`: one plain inner table is a rule of the project, and a program is public and `Copy`.
 #[derive(Clone, Copy)]
 pub struct Program {
     ops: [Op; 1024],

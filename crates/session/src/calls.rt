@@ -4,6 +4,7 @@ ghost use Rattle.session.specs.Calls.{task_after, called};
 use text::{framed, number};
 
 // What is asked of a station, and of which task.
+// kept: a case for each call, and no engine's event beside a task: a session stands on no engine.
 #[derive(Clone, Copy)]
 pub enum Call {
     Admit(usize),

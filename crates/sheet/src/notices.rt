@@ -1,7 +1,7 @@
 ghost use Rattle.std.specs.Prelude.{◌≡◌, Some};
 ghost use Rattle.sheet.specs.Refusals.{notice, told as notice_of, notice_text};
 
-use crate::parts::{LineFault, Notice, Refusal};
+use crate::parts::{Notice, Refusal};
 use std::fmt;
 
 impl Notice {
@@ -38,18 +38,7 @@ impl Refusal {
     {
         match self {
             Refusal::TooLong => Notice::on_sheet(2, 0),
-            Refusal::Line {
-                fault: LineFault::BadForm,
-                line,
-            } => Notice::on_sheet(3, line),
-            Refusal::Line {
-                fault: LineFault::PastBound,
-                line,
-            } => Notice::on_sheet(4, line),
-            Refusal::Line {
-                fault: LineFault::TooMany,
-                line,
-            } => Notice::on_sheet(5, line),
+            Refusal::Line { fault, line } => Notice::on_sheet(fault as u8, line),
             Refusal::OpenTask { line } => Notice::on_sheet(6, line),
             Refusal::StrayTarget { line } => Notice::on_sheet(7, line),
             Refusal::Unlawful => Notice::on_station(8, 0),

@@ -12,12 +12,12 @@ pub struct Cell<K> {
     pub value: K,
 }
 
-// Why a line is refused.
+// Why a line is refused, by the number that its notice has.
 #[derive(Clone, Copy)]
 pub enum LineFault {
-    BadForm,
-    PastBound,
-    TooMany,
+    BadForm = 3,
+    PastBound = 4,
+    TooMany = 5,
 }
 
 impl From<Fault> for LineFault {

@@ -1,16 +1,12 @@
 -- A sheet of values takes less memory than any working slice may.
-use Rattle.std.proofs.Common.{ℕ, zero, ◌+◌, ◌-◌, ◌*◌, ◌%◌, ◌<◌, ◌≤◌, max, sym, subst, mul-le-mul_right, mod-lt, arith, lit≤, w8, w16, w32, w64}
-use mir.Syntax.{Width, w128, Ty}
+use Rattle.std.proofs.Common.{ℕ, zero, ◌+◌, ◌-◌, ◌*◌, ◌%◌, ◌<◌, ◌≤◌, max, sym, subst, mul-le-mul_right, mod-lt, arith}
+use mir.Syntax.{Width, Ty}
 use mir.Val.{bytes}
 use prog.Memory.{align, size, up}
 use prog.Align.{align-bytes, align_pos, align_w}
 
 bytes_small : (w : Width) → bytes w ≤ 16
-bytes_small w8 = lit≤ tt
-bytes_small w16 = lit≤ tt
-bytes_small w32 = lit≤ tt
-bytes_small w64 = lit≤ tt
-bytes_small w128 = lit≤ tt
+bytes_small w = grind arith
 
 align_small : (τ : Ty) → align τ ≤ 16
 align_small τ = subst (λ n. n ≤ 16) (sym (align-bytes τ)) (bytes_small (align_w τ))
@@ -28,31 +24,8 @@ abbrev sheet_size : (ℕ → ℕ → ℕ) → ℕ → ℕ → ℕ
 sheet_size r a s =
     r (max (max (max 1 (max a 1)) 8) (max (max a 8) 8)) (r 8 (r 1 (r (max a 8) (r (max (max 1 (max a 1)) 8) 0 + places_size r (max 1 (max a 1)) (r (max 1 (max a 1)) (r a 1 + s))) + places_size r a s) + 16) + 6224)
 
-places_small : (r : ℕ → ℕ → ℕ) → ((k e : ℕ) → zero < k → k ≤ 16 → r k e ≤ e + 16) → (k n : ℕ) → zero < k → k ≤ 16 → places_size r k n ≤ 64 * n + 56
-places_small r up k n pos small =
-    let e1 = up k 0 pos small in
-    let e2 = up 8 (r k 0 + 64 * n) (omega arith) (omega arith) in
-    let e3 = up (max k 8) (r 8 (r k 0 + 64 * n) + 8) (omega arith) (omega arith) in
-    omega arith
-
 sheet_small : (r : ℕ → ℕ → ℕ) → ((k e : ℕ) → zero < k → k ≤ 16 → r k e ≤ e + 16) → (a s : ℕ) → zero < a → a ≤ 16 → s * 320 < 9223372036854775808 → sheet_size r a s < 9223372036854775808
-sheet_small r up a s pos small fits =
-    let m = max 1 (max a 1) in
-    let m1 : m ≤ 16 = omega arith in
-    let m0 : zero < m = omega arith in
-    let c = r m (r a 1 + s) in
-    let e1 = up a 1 pos small in
-    let e2 = up m (r a 1 + s) m0 m1 in
-    let cells = places_size r m c in
-    let p1 = places_small r up m c m0 m1 in
-    let consts = places_size r a s in
-    let p2 = places_small r up a s pos small in
-    let e3 = up (max m 8) 0 (omega arith) (omega arith) in
-    let e4 = up (max a 8) (r (max m 8) 0 + cells) (omega arith) (omega arith) in
-    let e5 = up 1 (r (max a 8) (r (max m 8) 0 + cells) + consts) (omega arith) (omega arith) in
-    let e6 = up 8 (r 1 (r (max a 8) (r (max m 8) 0 + cells) + consts) + 16) (omega arith) (omega arith) in
-    let e7 = up (max (max m 8) (max (max a 8) 8)) (r 8 (r 1 (r (max a 8) (r (max m 8) 0 + cells) + consts) + 16) + 6224) (omega arith) (omega arith) in
-    omega arith
+sheet_small r up a s pos small fits = omega (arith, up)
 
 pub sheet_fits : (τ : Ty) (n : ℕ) → 320 ≤ n → n * size τ < 9223372036854775808 → sheet_size up (align τ) (size τ) < 9223372036854775808
 sheet_fits τ n long fits =

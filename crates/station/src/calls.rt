@@ -1,6 +1,5 @@
 // The calls that name a task. A refused call changes nothing.
-// kept: five names, each one line over `call`, with the caller's slice and the task: people make a call by its name, and
-// a station holds no slice.
+// kept: five public names, each one line over `call`, and the slice with each call: a station holds no slice.
 ghost use Rattle.machine.specs.Effect.{meaning_of};
 ghost use Rattle.engine.specs.World.{world_of, Does};
 ghost use Rattle.engine.specs.Calls.{called};

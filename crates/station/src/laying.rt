@@ -14,7 +14,8 @@ pub(crate) fn blank<K: Kind>(slice: &mut [K])
     slice[..PLACES].copy_from_slice(&[K::ZERO; PLACES]);
 }
 
-// What `f` makes of each item, from a place on; what would fall past the end falls away.
+// What `f` makes of each item is laid from a place on; what would fall past the end falls away.
+// kept: `out` by index: no clause says what a zip of `iter_mut` leaves.
 pub(crate) fn lay<T, U, F: Fn(&T) -> U>(out: &mut [U], start: usize, items: &[T], f: F)
 where
     U: Drop,

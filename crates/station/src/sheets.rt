@@ -31,6 +31,7 @@ fn board_of<K: Kind>(cells: &[Cell<K>], owed: &[u8]) -> Board
 }
 
 // The constants in their places of the slice.
+// kept: the slice is long in three clauses: an array of 320 places would make the definitions speak of a part of it.
 fn consts_in<K: Kind>(slice: &[K]) -> [K; 64]
     requires { 320 ≤ length slice.now }
     ensures { result ≡ tabulated (constant_in K.ZERO slice.now) 64 }

@@ -5,10 +5,7 @@ ghost use Rattle.text.specs.Number.{digit_of, numeral};
 fn digit(b: u8) -> Option<u64>
     ensures { result ≡ digit_of b }
 {
-    match b {
-        b'0'..=b'9' => Some(u64::from(b - b'0')),
-        _ => None,
-    }
+    char::from(b).to_digit(10).map(u64::from)
 }
 
 // The number that the part writes, if it has one to ten digits and no needless zero in front.

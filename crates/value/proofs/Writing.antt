@@ -1,10 +1,8 @@
 -- Forms as they are written, piece after piece, onto a line.
-use Rattle.std.proofs.Common.{◌≡◌, ℕ, zero, suc, ◌-◌, ◌/◌, ◌%◌, ◌<◌, ◌≤◌, true, false, List, [], ◌∷◌, length, ℤ, pos, negsuc, nat_abs, decimal, ap, ◌∙◌, arith}
-use lib.Signed.{lt_z}
+use Rattle.std.proofs.Common.{◌≡◌, ℕ, zero, suc, ◌-◌, ◌/◌, ◌%◌, ◌<◌, ◌≤◌, List, [], ◌∷◌, length, ℤ, ap, ◌∙◌, arith}
 use Rattle.std.specs.Char.{digit_char}
 use Rattle.std.specs.Fmt.{signed_decimal}
 use Rattle.std.proofs.lemmas.List.{take_all, length_push}
-use Rattle.std.proofs.lemmas.Bool.{ltb-true, true≢false}
 use Rattle.text.specs.Line.{added}
 use Rattle.text.proofs.Lines.{added_more}
 use Rattle.value.specs.Forms.{tagged}
@@ -26,15 +24,6 @@ closing_hex n front was now = closing 97 (hex 8 n) front was now (omega (arith, 
 
 pub closing_count : (z : ℤ) (front was now : List ℕ) → FitsSigned w32 z → front ≡ 40 ∷ 110 ∷ 32 ∷ [] → was ≡ added front (signed_decimal z) → now ≡ added was (41 ∷ []) → now ≡ tagged 110 (signed_decimal z)
 closing_count z front was now f = closing 110 (signed_decimal z) front was now (omega (arith, length_signed_le 10 z (omega (arith, f)) (omega (arith, f))))
-
-pub with_minus : (z : ℤ) (start was now : List ℕ) (n : ℕ) → lt_z z (pos 0) ≡ true → n ≡ nat_abs z → was ≡ added start (45 ∷ []) → now ≡ added was (decimal n) → now ≡ added start (signed_decimal z)
-with_minus (pos k) start was now n h m e f = absurd (omega (arith, ltb-true k 0 h))
-with_minus (negsuc k) start was now n h m e f =
-    f ∙ (ap (λ l. added l (decimal n)) e ∙ (added_more start (45 ∷ []) (decimal n) ∙ ap (λ k. added start (45 ∷ decimal k)) m))
-
-pub without_minus : (z : ℤ) (start was now : List ℕ) (n : ℕ) → lt_z z (pos 0) ≡ false → n ≡ nat_abs z → was ≡ start → now ≡ added was (decimal n) → now ≡ added start (signed_decimal z)
-without_minus (pos k) start was now n h m e f = f ∙ (λ i. added (e i) (decimal (m i)))
-without_minus (negsuc k) start was now n h m e f = absurd (true≢false h)
 
 pub hex_more : (start was now : List ℕ) (k n b : ℕ) → 1 < k → was ≡ added start (hex (k - 1) (n / 16)) → b ≡ digit_char (n % 16) → now ≡ added was (b ∷ []) → now ≡ added start (hex k n)
 unfolding hex

@@ -15,3 +15,4 @@ pub mod Signs
 pub mod Floats
 pub mod ReadingKindLemmas
 pub mod WholeKindLemmas
+pub mod Cases

@@ -7,6 +7,7 @@ ghost use Rattle.value.specs.Counts.{integer};
 ghost use Rattle.value.specs.Forms.{tagged, tagged_part, lone};
 
 use crate::codes::Fault;
+use itoa::Buffer;
 use text::{Line, Token, number};
 
 // The part of `(L PART)`, where the tokens are those of the letter's form.
@@ -58,23 +59,13 @@ pub fn opened(letter: u8) -> Line
     line
 }
 
-#[tactic(auto, using(std::proofs::lemmas::Int::wraps, crate::proofs::Writing::with_minus, crate::proofs::Writing::without_minus))]
-fn push_integer(line: &mut Line, z: i32)
-    ensures { spelt line.new ≡ added (spelt line.old) (signed_decimal z) }
-{
-    if z < 0 {
-        line.push(b'-');
-    }
-    line.push_number(u64::from(z.unsigned_abs()));
-}
-
 // `(n Z)`.
-#[tactic(auto, using(std::proofs::lemmas::Int::wraps, crate::proofs::Writing::closing_count))]
+#[tactic(auto, using(crate::proofs::Writing::closing_count))]
 pub fn spell_integer(z: i32) -> Line
     ensures { spelt result ≡ tagged 110 (signed_decimal z) }
 {
     let mut line = opened(b'n');
-    push_integer(&mut line, z);
+    line.extend(Buffer::new().format(z).as_bytes());
     line.push(b')');
     line
 }

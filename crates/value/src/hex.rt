@@ -6,6 +6,7 @@ ghost use Rattle.value.specs.Hex.{hex, hexed, hex_digit_of};
 use text::Line;
 
 // What a byte counts for as a digit.
+// kept: `to_digit` reads capital letters too.
 fn digit(b: u8) -> Option<u32>
     ensures { result ≡ hex_digit_of b }
 {
@@ -33,6 +34,7 @@ pub fn read_hex(part: &[u8]) -> Option<u32>
 }
 
 // The digit that counts for so much.
+// kept: `char::from_digit` gives an `Option<char>`, to take apart and to cast to a byte.
 fn digit_byte(d: u8) -> u8
     requires { d < 16 }
     ensures { result ≡ digit_char d }

@@ -68,13 +68,8 @@ impl Kind for Reading {
 
     ghost there = { λ v ts e. ReadingKindLemmas.there v ts (lone 101 ts) refl e };
 
-    // kept: a match and no test: each case has a truth of its own.
     fn is_true(self) -> bool {
-        match self {
-            Reading::Blank => false,
-            Reading::Count(n) => n != 0,
-            Reading::Bearing(_) => true,
-        }
+        !matches!(self, Reading::Blank | Reading::Count(0))
     }
 
     fn apply(op: Operation, a: Reading, b: Reading) -> Result<Reading, Cause> {

@@ -55,8 +55,7 @@ impl Book for Counts {
     }
 
     fn rest(&mut self) {
-        self.tasks = [Task::begun(); 16];
-        self.commits = [0; 64];
+        *self = Counts::new();
     }
 
     fn is_stale(&self, t: usize) -> bool {

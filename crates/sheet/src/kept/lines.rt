@@ -44,12 +44,8 @@ impl<K: Kind> Sheet<K> {
     fn take_task(&mut self, part: &[u8]) -> Result<(), LineFault>
         ensures { Answers result (task_on (content self.old) (numeral part.now)) (content self.new) }
     {
-        let Some(owed) = number(part) else {
-            return Err(LineFault::BadForm);
-        };
-        let Ok(owed) = u8::try_from(owed) else {
-            return Err(LineFault::PastBound);
-        };
+        let owed = number(part).ok_or(LineFault::BadForm)?;
+        let owed = u8::try_from(owed).map_err(|_| LineFault::PastBound)?;
         let t = self.program.tasks();
         self.program.add_task()?;
         self.owed[t] = owed;

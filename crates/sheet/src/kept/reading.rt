@@ -55,9 +55,9 @@ impl<K: Kind> Sheet<K> {
         let mut rest = text;
         let mut line = 1;
         while let Some((first, after)) = split_once(b'\n', rest) {
-            if let Err(fault) = sheet.take_line(first) {
-                return Err(Refusal::Line { fault, line });
-            }
+            sheet
+                .take_line(first)
+                .map_err(|fault| Refusal::Line { fault, line })?;
             rest = after;
             line += 1;
         }

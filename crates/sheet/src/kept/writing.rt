@@ -1,50 +1,14 @@
-ghost use Rattle.std.specs.Prelude.{◌≡◌, ℕ, ◌+◌, ◌*◌, ◌≤◌, List, length, take, IfOk};
-ghost use Rattle.std.specs.List.{flat_map};
-ghost use Rattle.program.specs.Program.{code};
+ghost use Rattle.std.specs.Prelude.{◌≡◌, length, take, IfOk};
 ghost use Rattle.sheet.specs.Laws.{ReadsBack};
-ghost use Rattle.sheet.specs.Output.{over, Spells};
+ghost use Rattle.sheet.specs.Output.{over};
 ghost use Rattle.sheet.specs.Sheets.{content};
-ghost use Rattle.sheet.specs.Writing.{tasks_text, lawful, written, write_answer, write_out};
+ghost use Rattle.sheet.specs.Writing.{lawful, written, write_answer, write_out};
 
 use super::Sheet;
-use crate::lines_out::{const_line, op_line_of, task_line};
-use crate::output::put;
+use crate::lines_out::const_line;
+use crate::output::Out;
 use crate::parts::{Cell, Refusal};
-use program::Program;
-use text::Line;
 use value::Kind;
-
-// Writes the line of each item from `at` on, as far as the output goes, and gives the place behind the last.
-#[inline]
-fn put_lines<T, F: Fn(&T) -> Line>(out: &mut [u8], at: usize, items: &[T], line_of: F) -> usize
-    requires near { at ≤ 900000 }
-    requires few { length items.now ≤ 1024 }
-    requires callable { F.IsAlwaysCallable line_of }
-    ensures text { (text : T → List ℕ) → Spells F.Fn line_of text → out.new ≡ over at (flat_map text items.now) out.old }
-    ensures end { (text : T → List ℕ) → Spells F.Fn line_of text → result ≡ at + length (flat_map text items.now) }
-    ensures bound { result ≤ at + 32 * length items.now }
-{
-    let mut end = at;
-    for item in items {
-        end = put(out, end, &line_of(item));
-    }
-    end
-}
-
-// Writes each task's line, and then those of its operations.
-fn put_tasks(out: &mut [u8], at: usize, owed: &[u8; 16], program: &Program) -> usize
-    requires { at ≤ 200000 }
-    ensures text { out.new ≡ over at (tasks_text (take (length (code program.now)) owed.now) (code program.now)) out.old }
-    ensures end { result ≡ at + length (tasks_text (take (length (code program.now)) owed.now) (code program.now)) }
-{
-    let mut end = at;
-    let given = &owed[..program.tasks()];
-    for (t, calls) in given.iter().enumerate() {
-        end = put(out, end, &task_line(*calls));
-        end = put_lines(out, end, program.ops(t), op_line_of);
-    }
-    end
-}
 
 impl<K: Kind> Sheet<K> {
     // The cells, in order.
@@ -74,9 +38,11 @@ impl<K: Kind> Sheet<K> {
         ensures text { out.new ≡ over 0 (written K.Kind.form (content self.now)) out.old }
         ensures end { result ≡ length (written K.Kind.form (content self.now)) }
     {
-        let cells = put_lines(out, 0, self.cells(), |c| c.line());
-        let consts = put_lines(out, cells, self.consts(), const_line);
-        put_tasks(out, consts, &self.owed, &self.program)
+        let mut out = Out { bytes: out, end: 0 };
+        out.put_lines(self.cells(), |c| c.line());
+        out.put_lines(self.consts(), const_line);
+        out.put_tasks(&self.owed, &self.program);
+        out.end
     }
 
     // Looks at all values and at the length first, so that a refusal leaves no trace.

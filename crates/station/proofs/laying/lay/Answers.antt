@@ -1,20 +1,16 @@
-use Rattle.std.proofs.Common.{◌+◌, ◌≤◌, length, set, refl, ap, ◌∙◌, arith}
+use Rattle.std.proofs.Common.{refl, ◌∙◌, arith}
 use Rattle.board.proofs.Layings.{laid_put, laid_past}
 use Rattle.station.proofs.laying.lay.Goals as goal
 use Rattle.station.proofs.laying.lay.Goals.{then-i-room, else-i-room}
 
 pub loop-i-preserved : goal.loop-i-preserved
 loop-i-preserved g c = λ h each.
-    let at = c.args.start in
     let i = c.loop-i.i in
-    let xs = c.args.items.now in
-    let zs = c.loop-i.out in
     let so_far = c.loop-i.invariant h each in
     elim c.if-i-room.branch [
       | then-i-room w ↦
-          w.out-is ∙ (ap (λ y. set zs (at + i) y) (each c.index-items-i.result _ (record { shown = _; shows = refl; says = record { met = w.f.ensures } }))
-          ∙ laid_put h at i xs c.args.out.now zs c.index-items-i.result c.loop-i-test.true c.index-items-i.is so_far)
-      | else-i-room w ↦
-          let past : length zs ≤ at + i = omega arith in
-          w.out-is ∙ laid_past h at i xs c.args.out.now zs c.loop-i-test.true past so_far
+          let gives = each c.index-items-i.result _ (record { shown = _; shows = refl; says = record { met = w.f.ensures } }) in
+          let put = laid_put h c.args.start i c.args.items.now c.args.out.now c.loop-i.out c.index-items-i.result c.loop-i-test.true c.index-items-i.is so_far in
+          cc
+      | else-i-room w ↦ w.out-is ∙ laid_past h c.args.start i c.args.items.now c.args.out.now c.loop-i.out c.loop-i-test.true (omega arith) so_far
     ]

@@ -1,4 +1,4 @@
-use Rattle.std.proofs.Common.{length}
+use Rattle.std.proofs.Common.{length, rules}
 use denote.Param.{layout}
 use Rattle.sheet.specs.Sheets.{content}
 use Rattle.engine.specs.World.{world_of}
@@ -8,11 +8,10 @@ use Rattle.station.proofs.Sizes.{sheet_fits}
 use Rattle.station.proofs.kept.Station.read.Goals as goal
 
 pub read-requires : goal.read-requires
-read-requires g c = sheet_fits (layout g.row.K) (length c.args.slice.now) c.if-slice-lt-PLACES.false c.well_formed.1.0.1
+read-requires g c = search (rules, sheet_fits (layout g.row.K) (length c.args.slice.now))
 
 pub set_up-requires : goal.set_up-requires
-set_up-requires g c =
-    (sheet_fits (layout g.row.K) (length c.args.slice.now) c.if-slice-lt-PLACES.false c.well_formed.1.0.1, c.if-slice-lt-PLACES.false)
+set_up-requires g c = search (rules, sheet_fits (layout g.row.K) (length c.args.slice.now))
 
 pub invariant_of-self : goal.invariant_of-self
 invariant_of-self g c =

@@ -1,6 +1,6 @@
 use Rattle.std.proofs.Common.{add-one, rules}
 use Rattle.engine.specs.Restoring.{restored}
-use Rattle.engine.proofs.ends.restore.Goals as goal
+use Rattle.engine.proofs.turn.Turn.restore.Goals as goal
 
 pub loop-c-init : goal.loop-c-init
 unfolding restored
