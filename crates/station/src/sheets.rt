@@ -31,7 +31,8 @@ fn board_of<K: Kind>(cells: &[Cell<K>], owed: &[u8]) -> Board
 }
 
 // The constants in their places of the slice.
-// kept: the slice is long in three clauses: an array of 320 places would make the definitions speak of a part of it.
+// kept: that the slice is long stands in five clauses, four here: an array of 320 places would make the definitions speak of
+// a part of it.
 fn consts_in<K: Kind>(slice: &[K]) -> [K; 64]
     requires { 320 ≤ length slice.now }
     ensures { result ≡ tabulated (constant_in K.ZERO slice.now) 64 }
@@ -118,6 +119,7 @@ impl<B: Book> Station<B> {
     pub fn read<K: Kind>(&mut self, slice: &mut [K], text: &[u8]) -> Result<usize, Refusal>
         ensures { Leaves B.Book self.old.engine self.new.engine slice.new result (reads_sheet K.Kind.ZERO K.Kind.reads text.now (world_of B.Book self.old.engine slice.old)) }
     {
+        // kept: task 0 where a call has no task, here and below: the notice of a short slice has one place, and prints 0 in it.
         if slice.len() < PLACES {
             return Err(Refusal::ShortSlice { task: 0 });
         }
