@@ -6,7 +6,7 @@ mod edit;
 // kept: no `ArrayVec`: it would ask a `Default` of its items, and so of every kind, whose values are constants as they stand.
 #[derive(Drop)]
 pub(crate) struct Filled<T, const N: usize> {
-    items: [T; N],
+    pub(crate) items: [T; N],
     len: usize,
     ghost sizes: { (length items ≡ N) × (len ≤ N) },
 }

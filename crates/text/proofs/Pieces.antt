@@ -1,10 +1,7 @@
 -- Bytes cut into pieces: the first piece, by how many bytes stand before the first cut.
-use Rattle.std.proofs.Common.{◌≡◌, ◌≢◌, ℕ, zero, suc, ◌+◌, ◌-◌, ◌<◌, Bool, not, eqb, List, [], ◌∷◌, length, take, drop, get_or, All, sym, refl, ap, ◌∙◌, add-one, arith}
+use Rattle.std.proofs.Common.{◌≡◌, ℕ, zero, suc, ◌+◌, ◌-◌, ◌<◌, Bool, not, eqb, List, [], ◌∷◌, length, take, drop, sym, refl, ap, ◌∙◌, add-one, arith}
 use Rattle.std.specs.List.{prefix_len}
 use Rattle.std.proofs.lemmas.List.{take_rest}
-use Rattle.std.proofs.lemmas.List.Sums.{position_or_len_is}
-use Rattle.std.proofs.lemmas.List.Elements.{All-get_or}
-use Rattle.std.proofs.lemmas.Bool.{eq-eqb, ne_eqb}
 use Rattle.std.proofs.lemmas.Bool.Decides.{nat_tests}
 use Rattle.text.specs.Cut.{onto, cut}
 
@@ -29,11 +26,7 @@ pub cut_some : (d : ℕ) (bs : List ℕ) → 0 < length (cut d bs)
 cut_some d [] = omega arith
 cut_some d (b ∷ bs) = grind (arith, nat_tests, some_onto b (cut d bs))
 
--- the same, as a search finds the place of the first cut
-pub piece_first : (d : ℕ) (bs : List ℕ) (n : ℕ) → n < length bs → get_or bs n 0 ≡ d → ((k : ℕ) → k < n → get_or bs k 0 ≢ d) → cut d bs ≡ take n bs ∷ cut d (take (length bs - (n + 1)) (drop (n + 1) bs))
-piece_first d bs n h e f =
-    cut_first d bs n (position_or_len_is (λ b. eqb b d) bs n 0 (omega arith) (λ k l. ne_eqb _ d (f k l)) (λ _. eq-eqb _ d e)) h
-    ∙ (λ i. take n bs ∷ cut d ((ap (λ m. drop m bs) (sym (add-one n)) ∙ sym (take_rest bs (n + 1))) i))
-
-pub piece_last : (d : ℕ) (bs : List ℕ) → All (λ b. b ≢ d) bs → cut d bs ≡ bs ∷ []
-piece_last d bs f = cut_last d bs (position_or_len_is (λ b. eqb b d) bs (length bs) 0 (omega arith) (λ k l. ne_eqb _ d (All-get_or (λ b. b ≢ d) bs k 0 l f)) (λ l. absurd (omega arith)))
+-- the same, with what follows the cut as a slice of it is
+pub piece_first : (d : ℕ) (bs : List ℕ) (n : ℕ) → n ≡ prefix_len (other d) bs → n < length bs → cut d bs ≡ take n bs ∷ cut d (take (length bs - (n + 1)) (drop (n + 1) bs))
+piece_first d bs n e h =
+    cut_first d bs n (sym e) h ∙ (λ i. take n bs ∷ cut d ((ap (λ m. drop m bs) (sym (add-one n)) ∙ sym (take_rest bs (n + 1))) i))

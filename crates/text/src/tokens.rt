@@ -48,13 +48,15 @@ pub fn lex(bytes: &[u8]) -> ArrayVec<Token<'_>, 24>
 {
     let mut all = ArrayVec::new();
     let mut rest = bytes;
-    while let Some((token, after)) = next(rest) {
-        if all.len() == 23 {
-            all.push(Token::Rest(rest));
-            break;
-        }
+    while all.len() < 23 {
+        let Some((token, after)) = next(rest) else {
+            return all;
+        };
         all.push(token);
         rest = after;
+    }
+    if !rest.is_empty() {
+        all.push(Token::Rest(rest));
     }
     all
 }

@@ -3,5 +3,5 @@ use Rattle.std.proofs.lemmas.Grind.{common_steps}
 use Rattle.text.proofs.Lexing.{all_left}
 use Rattle.text.proofs.tokens.lex.Goals as goal
 
-pub returns-then-len-eq23 : goal.returns-then-len-eq23
-returns-then-len-eq23 c = grind (arith, common_steps, all_left c.loop-token.rest.now (omega (arith, c.in-Some.ensures.falls)))
+pub returns-then-not-is_empty : goal.returns-then-not-is_empty
+returns-then-not-is_empty c = grind (arith, common_steps, all_left c.loop-rest.rest.now)
