@@ -49,7 +49,7 @@ fn enlist(row: &mut [bool; 16], t: usize)
 fn taint(stale: &mut [bool; 16], row: &[bool; 16])
     ensures { (u : ℕ) → slice_index_or stale.new u false ≡ (slice_index_or stale.old u false || slice_index_or row.now u false) }
 {
-    *stale = array::from_fn(|u| stale[u] || row[u]);
+    *stale = array::from_fn(|u| stale[u] | row[u]);
 }
 
 // Makes the readers of each of the cells stale.

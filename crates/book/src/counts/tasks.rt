@@ -28,7 +28,7 @@ impl Task {
         ensures flag { self.new.flag ≡ (self.old.flag || held) }
         ensures first { (d : ℕ) → slice_index_or self.new.first d None ≡ (if nat_eq d c && not (is_some (slice_index_or self.old.first c None)) then Some count else slice_index_or self.old.first d None) }
     {
-        self.first[c] = self.first[c].or(Some(count));
+        self.first[c].get_or_insert(count);
         self.flag |= held;
     }
 
