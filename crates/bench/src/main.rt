@@ -43,23 +43,23 @@ impl Run {
         }
     }
 
-    // Makes the call that a line writes, and prints its answer. A line that is no call is told by its number.
-    fn answer(&mut self, text: &[u8], line: usize) -> io::Result<()> {
+    // Makes the call that a line writes. A line that is no call is told by its number.
+    fn answer(&mut self, text: &[u8], line: usize) -> Result<(), Notice> {
         let Some(call) = call_of(text) else {
             let fault = LineFault::BadForm;
-            return self.print(SheetRefusal::Line { fault, line }.told());
+            return Err(SheetRefusal::Line { fault, line }.told());
         };
-        match self.make(call) {
-            Ok(()) => self.out.write_all(b"(ok)\n"),
-            Err(refusal) => self.print(refusal.told()),
-        }
+        self.make(call).map_err(|refusal| refusal.told())
     }
 
-    // One answer a line; the first has the number `first` in the whole input. A last line without a line feed is no call.
+    // Prints one answer a line; the first has the number `first` in the whole input. A last line without a line feed is no call.
     fn answer_all(&mut self, calls: &[u8], first: usize) -> io::Result<()> {
         for (i, line) in calls.split_inclusive(|b| *b == b'\n').enumerate() {
             let text = line.strip_suffix(b"\n").unwrap_or(b"");
-            self.answer(text, first.saturating_add(i))?;
+            match self.answer(text, first.saturating_add(i)) {
+                Ok(()) => self.out.extend_from_slice(b"(ok)\n")?,
+                Err(notice) => self.print(notice)?,
+            }
         }
         Ok(())
     }

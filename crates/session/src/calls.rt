@@ -14,7 +14,8 @@ pub enum Call {
     Undo(usize),
 }
 
-// The task's number, where the line has the name in front.
+// The task's number, where the line has the name in front. (Inlined, so that a name is compared as a constant.)
+#[inline(always)]
 fn task_of(line: &[u8], head: &[u8]) -> Option<usize>
     ensures { result ≡ task_after head.now line.now }
 {
@@ -22,14 +23,16 @@ fn task_of(line: &[u8], head: &[u8]) -> Option<usize>
     Some(n as usize)
 }
 
-// The call that a line writes, as `(admit 0)`.
+// The call that a line writes, as `(admit 0)`. Its second byte says which name alone it can have.
 pub fn call_of(line: &[u8]) -> Option<Call>
     ensures { result ≡ called line.now }
 {
-    task_of(line, b"(admit ")
-        .map(Call::Admit)
-        .or_else(|| task_of(line, b"(open ").map(Call::Open))
-        .or_else(|| task_of(line, b"(step ").map(Call::Step))
-        .or_else(|| task_of(line, b"(commit ").map(Call::Commit))
-        .or_else(|| task_of(line, b"(undo ").map(Call::Undo))
+    match *line.get(1)? {
+        b'a' => Some(Call::Admit(task_of(line, b"(admit ")?)),
+        b'o' => Some(Call::Open(task_of(line, b"(open ")?)),
+        b's' => Some(Call::Step(task_of(line, b"(step ")?)),
+        b'c' => Some(Call::Commit(task_of(line, b"(commit ")?)),
+        b'u' => Some(Call::Undo(task_of(line, b"(undo ")?)),
+        _ => None,
+    }
 }
