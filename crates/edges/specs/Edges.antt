@@ -71,6 +71,8 @@ edges =
     ∷ edge (call (answer_at 13 handover)) (call (refused 16 3 0 3 0))
     -- the 14th: a transaction that has read what was committed since may not commit
     ∷ edge (call (answer_at 14 handover)) (call (refused 23 3 1 5 0))
+    -- the 20th: undone and run again, that transaction sees the cleared flag and commits
+    ∷ edge (call (answer_at 20 handover)) (call passes)
     -- task 2 noted cell 5, and task 3 finishes it
     ∷ edge (stale (stale_of 2 (finished 3 (λ c. nat_eq c 5) (noting 2 5 false (begun 2 rested))))) (stale true)
     -- a driver starts a task that is owed 254 calls, and one that is owed 255
